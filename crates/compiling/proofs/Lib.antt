@@ -1,0 +1,16 @@
+pub mod Fines
+pub mod Wilds
+pub mod Unders
+pub mod Takes
+pub mod Codes
+pub mod Writtens
+pub mod Opens
+pub mod Turns
+pub mod Writes
+pub mod Says
+pub mod Runs
+pub mod Members
+pub mod Builds
+pub mod Weighs
+pub mod Makes
+pub mod Rights

@@ -1,0 +1,6 @@
+pub mod Limits
+pub mod Written
+pub mod Outcomes
+pub mod Code
+pub mod Tasks
+pub mod Samples

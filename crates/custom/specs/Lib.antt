@@ -1,0 +1,4 @@
+pub mod Customs
+pub mod Entries
+pub mod Held
+pub mod Worlds

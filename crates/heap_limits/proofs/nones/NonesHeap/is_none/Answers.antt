@@ -1,0 +1,11 @@
+use mathlib.Core.Path.{refl}
+use lib.Dec.{eqb}
+use mathlib.Core.Bool.{true}
+use Rattle.heap_limits.proofs.Alike.{says, says-past}
+use Rattle.heap_limits.proofs.nones.NonesHeap.is_none.Needs as need
+
+pub returns-then-v-self : need.returns-then-v-self
+returns-then-v-self c = says (c .args .self .now .count) (c .args .v .0) (λ c. eqb (c .ty) 3) true (c .if-v-self .taken) refl
+
+pub returns-else-v-self : need.returns-else-v-self
+returns-else-v-self c = says-past (c .args .self .now .count) (c .args .v .0) (λ c. eqb (c .ty) 3) (c .if-v-self .left)

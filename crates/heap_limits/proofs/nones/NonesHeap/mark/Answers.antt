@@ -1,0 +1,10 @@
+use mathlib.Core.Path.{refl}
+use lib.IntN.{pos}
+use Rattle.heap_limits.proofs.Alike.{says, says-past}
+use Rattle.heap_limits.proofs.nones.NonesHeap.mark.Needs as need
+
+pub returns-then-v-self : need.returns-then-v-self
+returns-then-v-self c = says (c .args .self .now .count) (c .args .v .0) (λ c. c .mark) (pos 0) (c .if-v-self .taken) refl
+
+pub returns-else-v-self : need.returns-else-v-self
+returns-else-v-self c = says-past (c .args .self .now .count) (c .args .v .0) (λ c. c .mark) (c .if-v-self .left)

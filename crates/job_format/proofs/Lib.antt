@@ -1,0 +1,10 @@
+pub mod Tagged
+pub mod Walks
+pub mod Pairing
+pub mod Finding
+pub mod Having
+pub mod Digits
+pub mod Framing
+pub mod Entries
+pub mod Exacts
+pub mod Rising

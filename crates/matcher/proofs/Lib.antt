@@ -1,0 +1,2 @@
+pub mod Grows
+mod Flats

@@ -1,0 +1,4 @@
+pub mod Nodes
+pub mod Meaning
+pub mod Tables
+pub mod Held

@@ -1,0 +1,6 @@
+mod Rooms
+mod Tops
+mod Valids
+mod Readings
+mod Places
+mod Turns

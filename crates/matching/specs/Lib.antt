@@ -1,0 +1,4 @@
+pub mod Verdicts
+pub mod Shapes
+pub mod Stacks
+pub mod Waiting

@@ -1,0 +1,12 @@
+pub mod Stands
+pub mod Joins
+pub mod Order
+pub mod Uniques
+pub mod Eachs
+pub mod Puts
+pub mod Kepts
+pub mod Belongs
+pub mod Unions
+pub mod Laws
+pub mod Measured
+pub mod Costs

@@ -1,0 +1,5 @@
+pub mod Rows
+pub mod Readings
+pub mod Members
+pub mod Measures
+pub mod Samples

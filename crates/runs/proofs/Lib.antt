@@ -1,0 +1,9 @@
+pub mod Fronts
+pub mod Reach
+pub mod Heaps
+pub mod Tables
+pub mod Stores
+pub mod Goods
+pub mod Unmoved
+pub mod Whole
+pub mod Sofar

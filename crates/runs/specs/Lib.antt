@@ -1,0 +1,4 @@
+pub mod Acts
+pub mod States
+pub mod Runs
+pub mod Throughout

@@ -1,0 +1,2 @@
+pub mod Sures
+pub mod Finish

@@ -1,0 +1,12 @@
+pub mod Words
+pub mod Walks
+pub mod Sizes
+pub mod Stores
+pub mod Fitting
+pub mod Joining
+pub mod Bounds
+pub mod Cutting
+pub mod Making
+pub mod Judging
+pub mod Reading
+pub mod Tupling

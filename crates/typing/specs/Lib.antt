@@ -1,0 +1,5 @@
+pub mod View
+pub mod Rooms
+pub mod Making
+pub mod Outcomes
+pub mod Held

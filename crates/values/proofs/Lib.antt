@@ -1,0 +1,6 @@
+mod Numbers
+pub mod Eaches
+pub mod Rows
+pub mod Floors
+pub mod Says
+pub mod Forms

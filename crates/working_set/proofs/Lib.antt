@@ -1,0 +1,3 @@
+pub mod Beginnings
+pub mod Checked
+pub mod Going

@@ -1,0 +1,3 @@
+pub mod Words
+pub mod Sets
+pub mod Performed
