@@ -1,5 +1,7 @@
-ghost use Prim.Native.Nat.{_≤_};
+ghost use mathlib.Core.Path.{_≡_};
+ghost use Prim.Native.Nat.{_≤_, _<_};
 ghost use lib.ListN.{replicate};
+ghost use Rattle.std.specs.Options.{Cases as BySome};
 ghost use Rattle.values.specs.Held.{noneCell};
 use values::heap::Heap;
 use values::refusal::Refusal;
@@ -16,7 +18,9 @@ pub struct Nones {
 }
 
 impl Nones {
-    pub fn new(count: usize) -> Option<Nones> {
+    pub fn new(count: usize) -> Option<Nones>
+        ensures { λ r. ⌜ BySome r (65536 < count) (λ s. s .count ≡ count) ⌝ }
+    {
         if count > MOST {
             None
         } else {

@@ -50,14 +50,9 @@ fn nested(live: &mut LiveHeap<EmptyHeap>, value: Value, times: usize) -> Value {
     v
 }
 
+// Nodes 64 and 65 deep.
 pub(crate) fn deep(rt: LibcRuntime) -> Result<(), AnyError> {
-    let heap = rt.alloc();
-    let mut live = LiveHeap::over(heap, EmptyHeap)?;
-    let mut store = SharingStore::new(heap, 1000)?;
-    let seven = int(&mut live, 7);
-    let own = own_list(&mut live);
-    let lists = nested(&mut live, seven, 63);
-    let fewer = nested(&mut live, seven, 62);
+    let mut store = SharingStore::new(rt.alloc(), 1000)?;
     let any_int = node(&mut store, Kind::IsInt, &[]);
     let any_list = node(&mut store, Kind::IsList, &[]);
     let ints = wrapped(&mut store, any_int, 63);
@@ -70,44 +65,40 @@ pub(crate) fn deep(rt: LibcRuntime) -> Result<(), AnyError> {
         "65 deep of two",
         store.alloc(Kind::IsAnyOfTwo, 0, &[any_int, ints]),
     )?;
-    if let Some(customs) = customs(heap)? {
-        tell(
-            rt,
-            "63 lists of an int",
-            run(ints, lists, &live, &store, &customs),
-        )?;
-        tell(
-            rt,
-            "62 lists of an int",
-            run(ints, fewer, &live, &store, &customs),
-        )?;
-        tell(
-            rt,
-            "a list of itself, at an int",
-            run(ints, own, &live, &store, &customs),
-        )?;
-        tell(
-            rt,
-            "a list of itself, at a list",
-            run(own_lists, own, &live, &store, &customs),
-        )?;
-        tell(
-            rt,
-            "63 lists of an int, at a list",
-            run(own_lists, lists, &live, &store, &customs),
-        )?;
+    deep_runs(rt, &store, ints, own_lists)
+}
+
+// Runs 64 deep, one of them on a list that holds itself.
+fn deep_runs(
+    rt: LibcRuntime,
+    store: &SharingStore,
+    ints: usize,
+    own_lists: usize,
+) -> Result<(), AnyError> {
+    let heap = rt.alloc();
+    let mut live = LiveHeap::over(heap, EmptyHeap)?;
+    let seven = int(&mut live, 7);
+    let own = own_list(&mut live);
+    let lists = nested(&mut live, seven, 63);
+    let fewer = nested(&mut live, seven, 62);
+    if let Some(c) = customs(heap)? {
+        let found = run(ints, lists, &live, store, &c);
+        tell(rt, "63 lists of an int", found)?;
+        let found = run(ints, fewer, &live, store, &c);
+        tell(rt, "62 lists of an int", found)?;
+        let found = run(ints, own, &live, store, &c);
+        tell(rt, "a list of itself, at an int", found)?;
+        let found = run(own_lists, own, &live, store, &c);
+        tell(rt, "a list of itself, at a list", found)?;
+        let found = run(own_lists, lists, &live, store, &c);
+        tell(rt, "63 lists of an int, at a list", found)?;
     }
     Ok(())
 }
 
+// Nodes of 64 and of 65 kids.
 pub(crate) fn wide(rt: LibcRuntime) -> Result<(), AnyError> {
-    let heap = rt.alloc();
-    let mut live = LiveHeap::over(heap, EmptyHeap)?;
-    let mut store = SharingStore::new(heap, 1000)?;
-    let seven = int(&mut live, 7);
-    let s = text(&mut live);
-    let full = tuple(&mut live, &[seven; 64]);
-    let fewer = tuple(&mut live, &[seven; 63]);
+    let mut store = SharingStore::new(rt.alloc(), 1000)?;
     let any_int = node(&mut store, Kind::IsInt, &[]);
     let any_str = node(&mut store, Kind::IsStr, &[]);
     let mut sides = [any_int; 64];
@@ -117,47 +108,37 @@ pub(crate) fn wide(rt: LibcRuntime) -> Result<(), AnyError> {
     let deep = wrapped(&mut store, any_int, 63);
     say(rt, "64 kids", Ok(elems))?;
     say(rt, "64 sides", Ok(union))?;
-    say(
-        rt,
-        "65 kids",
-        store.alloc(Kind::IsTupleElems, 0, &[any_int; 65]),
-    )?;
-    say(
-        rt,
-        "65 kids of a list",
-        store.alloc(Kind::IsListOf, 0, &[any_int; 65]),
-    )?;
-    say(
-        rt,
-        "65 kids, 64 deep",
-        store.alloc(Kind::IsAnyOf, 0, &[deep; 65]),
-    )?;
-    say(
-        rt,
-        "65 missing kids",
-        store.alloc(Kind::IsAnyOf, 0, &[MISSING; 65]),
-    )?;
-    if let Some(customs) = customs(heap)? {
-        tell(
-            rt,
-            "a tuple of 64",
-            run(elems, full, &live, &store, &customs),
-        )?;
-        tell(
-            rt,
-            "a tuple of 63",
-            run(elems, fewer, &live, &store, &customs),
-        )?;
-        tell(
-            rt,
-            "the last of 64 sides",
-            run(union, s, &live, &store, &customs),
-        )?;
-        tell(
-            rt,
-            "none of 64 sides",
-            run(union, full, &live, &store, &customs),
-        )?;
+    let found = store.alloc(Kind::IsTupleElems, 0, &[any_int; 65]);
+    say(rt, "65 kids", found)?;
+    let found = store.alloc(Kind::IsListOf, 0, &[any_int; 65]);
+    say(rt, "65 kids of a list", found)?;
+    let found = store.alloc(Kind::IsAnyOf, 0, &[deep; 65]);
+    say(rt, "65 kids, 64 deep", found)?;
+    let found = store.alloc(Kind::IsAnyOf, 0, &[MISSING; 65]);
+    say(rt, "65 missing kids", found)?;
+    wide_runs(rt, &store, elems, union)
+}
+
+// Runs of nodes with 64 kids.
+fn wide_runs(
+    rt: LibcRuntime,
+    store: &SharingStore,
+    elems: usize,
+    union: usize,
+) -> Result<(), AnyError> {
+    let heap = rt.alloc();
+    let mut live = LiveHeap::over(heap, EmptyHeap)?;
+    let seven = int(&mut live, 7);
+    let s = text(&mut live);
+    let full = tuple(&mut live, &[seven; 64]);
+    let fewer = tuple(&mut live, &[seven; 63]);
+    if let Some(c) = customs(heap)? {
+        tell(rt, "a tuple of 64", run(elems, full, &live, store, &c))?;
+        tell(rt, "a tuple of 63", run(elems, fewer, &live, store, &c))?;
+        let found = run(union, s, &live, store, &c);
+        tell(rt, "the last of 64 sides", found)?;
+        let found = run(union, full, &live, store, &c);
+        tell(rt, "none of 64 sides", found)?;
     }
     Ok(())
 }

@@ -18,24 +18,8 @@ use values::live::LiveHeap;
 use values::live_heap::LiveCells;
 use values::value::Value;
 
-pub(crate) fn forms(rt: LibcRuntime) -> Result<(), AnyError> {
-    let mut store = PlainStore::new(rt.alloc(), 100)?;
-    say(rt, "IsInt", store.alloc(Kind::IsInt, 0, &[]))?;
-    say(rt, "IsInt numbered 1", store.alloc(Kind::IsInt, 1, &[]))?;
-    say(rt, "IsInt of a node", store.alloc(Kind::IsInt, 0, &[0]))?;
-    say(rt, "IsListOf of none", store.alloc(Kind::IsListOf, 0, &[]))?;
-    say(
-        rt,
-        "IsListOf of two",
-        store.alloc(Kind::IsListOf, 0, &[0, 0]),
-    )?;
-    say(rt, "IsDictOf of one", store.alloc(Kind::IsDictOf, 0, &[0]))?;
-    say(rt, "IsAnyOf of two", store.alloc(Kind::IsAnyOf, 0, &[0, 0]))?;
-    say(
-        rt,
-        "IsTupleElems of two",
-        store.alloc(Kind::IsTupleElems, 0, &[0, 0]),
-    )?;
+// The type numbers that a matcher may have.
+fn numbers(rt: LibcRuntime, store: &mut PlainStore) -> Result<(), AnyError> {
     say(
         rt,
         "StarlarkTypeIdMatcher 0",
@@ -61,6 +45,28 @@ pub(crate) fn forms(rt: LibcRuntime) -> Result<(), AnyError> {
         "StarlarkTypeIdMatcher 16",
         store.alloc(Kind::StarlarkTypeIdMatcher, 16, &[]),
     )?;
+    Ok(())
+}
+
+pub(crate) fn forms(rt: LibcRuntime) -> Result<(), AnyError> {
+    let mut store = PlainStore::new(rt.alloc(), 100)?;
+    say(rt, "IsInt", store.alloc(Kind::IsInt, 0, &[]))?;
+    say(rt, "IsInt numbered 1", store.alloc(Kind::IsInt, 1, &[]))?;
+    say(rt, "IsInt of a node", store.alloc(Kind::IsInt, 0, &[0]))?;
+    say(rt, "IsListOf of none", store.alloc(Kind::IsListOf, 0, &[]))?;
+    say(
+        rt,
+        "IsListOf of two",
+        store.alloc(Kind::IsListOf, 0, &[0, 0]),
+    )?;
+    say(rt, "IsDictOf of one", store.alloc(Kind::IsDictOf, 0, &[0]))?;
+    say(rt, "IsAnyOf of two", store.alloc(Kind::IsAnyOf, 0, &[0, 0]))?;
+    say(
+        rt,
+        "IsTupleElems of two",
+        store.alloc(Kind::IsTupleElems, 0, &[0, 0]),
+    )?;
+    numbers(rt, &mut store)?;
     say(rt, "Custom 65535", store.alloc(Kind::Custom, 65535, &[]))?;
     say(
         rt,
