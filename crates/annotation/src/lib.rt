@@ -1,4 +1,5 @@
 // The text of an annotation, read into a type.
+#![tactic(auto)]
 mod builders;
 pub mod calls;
 pub mod fault;

@@ -1,3 +1,4 @@
+#![tactic(auto)]
 mod lists;
 
 use custom::entries::Mark;

@@ -1,4 +1,5 @@
 // The grammar of annotations: which texts are valid, and where any other goes wrong.
+#![tactic(auto)]
 mod readers;
 mod stages;
 pub mod text;

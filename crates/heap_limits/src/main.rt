@@ -1,4 +1,5 @@
 // The heaps and customs at their limits, a line for each case.
+#![tactic(auto)]
 mod nones;
 
 use custom::entries::{Mark, Range};

@@ -1,4 +1,5 @@
 // Matchers: kinds of nodes, what a store of nodes is, and two stores.
+#![tactic(auto)]
 pub mod alloc;
 mod forms;
 pub mod kind;

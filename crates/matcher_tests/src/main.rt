@@ -1,5 +1,6 @@
 // Nodes of every kind at every value of one heap, the limits of nodes, full stores and refusals.
 // What must come out is worked out by hand from the rules and stands in `stdout`.
+#![tactic(auto)]
 
 mod bench;
 mod cells;

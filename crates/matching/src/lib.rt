@@ -1,4 +1,5 @@
 // Whether a node of a store accepts a value of a heap.
+#![tactic(auto)]
 mod asked;
 mod frames;
 pub mod running;

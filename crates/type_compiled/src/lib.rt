@@ -1,4 +1,5 @@
 // Annotations compiled to matchers.
+#![tactic(auto)]
 pub mod annotations;
 mod choose;
 pub mod compile;

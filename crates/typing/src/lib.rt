@@ -1,3 +1,4 @@
+#![tactic(auto)]
 pub mod basic;
 pub mod calls;
 pub mod limits;

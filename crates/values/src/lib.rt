@@ -1,4 +1,6 @@
 // Heaps: lists of cells, asked through one trait.
+#![tactic(auto)]
+
 mod calls;
 pub mod empty;
 pub mod form;

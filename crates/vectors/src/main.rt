@@ -1,4 +1,5 @@
 // Replays recorded jobs: each has its length in four bytes in front of it.
+#![tactic(auto)]
 ghost use Rattle.std.specs.Prelude.{◌<◌, length, IfSome};
 
 use report::lines::lines;
