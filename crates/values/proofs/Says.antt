@@ -1,18 +1,18 @@
 -- What `new` and `put` answer and leave, by their tests. Assumes nothing.
-use Rattle.std.proofs.Common.{◌≡◌, ℕ, ◌+◌, ◌-◌, ◌%◌, ◌<◌, ◌≤◌, Bool, true, false, cond, ◌&&◌, ◌||◌, eqb, ltb, leb, List, [], ◌∷◌, ◌++◌, length, get_or, drop, set, is_ok, Ok, Err, vec_items, vec_len, Result, sym, refl, ap, ◌∙◌, subst, ap₂, append_assoc, arith}
-use Rattle.std.proofs.lemmas.Bool.{and_from, and_parts, lt-ltb, le-ltb, le-leb, lt-leb, ltb-true, leb-true, cond-true, cond-false}
+use Rattle.std.proofs.Common.{◌≡◌, ℕ, ◌+◌, ◌-◌, ◌%◌, ◌<◌, ◌≤◌, Bool, true, false, cond, ◌&&◌, ltb, leb, List, [], ◌∷◌, ◌++◌, length, get_or, drop, set, is_ok, Ok, Err, vec_items, vec_len, Result, sym, refl, ap, ◌∙◌, subst, ap₂, append_assoc, arith}
+use Rattle.std.proofs.lemmas.Bool.{and_from, and_parts, lt-ltb, le-ltb, ltb-true, leb-true, cond-true, cond-false}
 use Rattle.std.proofs.lemmas.Bool.Decides.{nat_tests}
 use Rattle.std.proofs.lemmas.List.{set-append_right, drop_at}
 use Rattle.values.specs.Cells.{Cell, cell_at, cell_says, cell_part, well_formed, each, most}
 use Rattle.values.specs.Values.{value}
 use Rattle.values.specs.declared.value.Value.{Value}
-use Rattle.values.specs.Owned.{cells_of, total}
+use Rattle.values.specs.Owned.{cells_of}
 use Rattle.values.specs.Lives.{Live, parts_in, has_room_lem, new_says, new_leaves, added, put_says, put_leaves, put, settable, changed}
 use Rattle.values.specs.Held.{floor, live_cells, live_of, Lies}
 use Rattle.values.specs.declared.live.LiveHeap.{LiveHeap}
 use Rattle.values.specs.declared.refusal.Refusal.{Refusal}
 use Rattle.values.specs.declared.refusal.Refusal.TheVariants.{NoValue, BadForm, Frozen, NoItem, NoRoom}
-use Rattle.values.specs.Rows.{parts_all, parts_length}
+use Rattle.values.specs.Rows.{parts_all}
 use Rattle.values.specs.Floors.{length_live, length_floor, inside}
 
 all_three : (a b d : Bool) → (a && b && d) ≡ true → (a ≡ true) × (b ≡ true) × (d ≡ true)

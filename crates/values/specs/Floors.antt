@@ -1,16 +1,15 @@
 -- The cells of a live heap. Assumes nothing.
-use Rattle.std.specs.Prelude.{◌≡◌, ℕ, zero, suc, ◌+◌, ◌-◌, ◌<◌, ◌≤◌, Bool, true, false, cond, ◌⊎◌, List, [], ◌∷◌, ◌++◌, map, length, get_or, replicate, vec_items, vec_len, ◌==◌, ◌≢◌, slice_index_or, refl}
-use Rattle.std.proofs.Common.{sym, ap, ap₂, subst, ◌∙◌, inl, inr, append_assoc, arith}
+use Rattle.std.specs.Prelude.{◌≡◌, ℕ, ◌+◌, ◌-◌, ◌<◌, ◌≤◌, Bool, true, false, cond, ◌⊎◌, List, length, get_or, replicate, vec_items, vec_len, ◌==◌, ◌≢◌, slice_index_or, refl}
+use Rattle.std.proofs.Common.{sym, ap, subst, ◌∙◌, inl, inr, arith}
 use Rattle.std.proofs.Math.ListN.{length-append}
-use Rattle.std.proofs.lemmas.List.{get_or_append_left, get_or-append_right, get_or-replicate, length-map, get_or-map, get_or_past, set-append_right, drop_at, length-replicate}
-use Rattle.std.proofs.lemmas.Bool.{eqb-true, eqb-false, eq-eqb, ne_eqb, cases_lt}
+use Rattle.std.proofs.lemmas.List.{get_or_append_left, get_or-append_right, get_or-replicate, length-map, get_or-map, length-replicate}
+use Rattle.std.proofs.lemmas.Bool.{eqb-true, eq-eqb, ne_eqb, cases_lt}
 use Rattle.values.specs.Cells.{Cell, no_cell, cell_at, Closed, Formed, well_formed, formed}
-use Rattle.values.specs.Owned.{no_own, cell_of, cells_of, total, Laid, Below, Shaped}
-use Rattle.values.specs.Lives.{Live, cell, changed, parts_in, added, put}
-use Rattle.values.specs.Held.{none_cell, floor, live_cells, live_of, Lies}
+use Rattle.values.specs.Owned.{no_own, cell_of, cells_of, Below}
+use Rattle.values.specs.Held.{none_cell, floor, live_cells, Lies}
 use Rattle.values.specs.declared.own.Own.{Own}
 use Rattle.values.specs.declared.live.LiveHeap.{LiveHeap}
-use Rattle.values.specs.Rows.{Within, within, parts_length, part_at, parts_all}
+use Rattle.values.specs.Rows.{Within, within, parts_length, part_at}
 
 pub length_floor : (base : ℕ) (below : List Cell) → length (floor base below) ≡ base
 length_floor base below = go (base == length below) refl

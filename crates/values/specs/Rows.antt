@@ -1,10 +1,10 @@
 -- The rows and the pool of a live heap, as they change. Assumes nothing.
-use Rattle.std.specs.Prelude.{◌≡◌, ℕ, zero, suc, ◌+◌, ◌-◌, ◌<◌, ◌≤◌, min, Bool, true, false, ◌≢◌, ◌⊎◌, List, [], ◌∷◌, ◌++◌, map, length, get_or, take, drop, ℤ, slice_index, slice_index_or, slice_set, refl}
+use Rattle.std.specs.Prelude.{◌≡◌, ℕ, zero, suc, ◌+◌, ◌-◌, ◌<◌, ◌≤◌, true, ◌≢◌, ◌⊎◌, List, [], ◌∷◌, ◌++◌, map, length, get_or, take, drop, slice_index, slice_index_or, slice_set, refl}
 use Rattle.std.proofs.Common.{sym, ap, ap₂, subst, ◌∙◌, inl, inr, arith, length-append, length-set, length-take, length-drop}
 use Rattle.std.proofs.Math.Seq.{take-set-lt}
 use Rattle.std.proofs.lemmas.List.{get_or_append_left, get_or-append_right, get_or_push, map-append, length-map, get_or-map, ext_get_or, take-append-le, drop-append-le, take-take, get_or-take, get_or-drop, take-set-le, drop-set-lt, drop-set-add, length_push, take_at, drop_at, take_all, get_or-set_same, get_or-set_other}
 use Rattle.std.proofs.lemmas.Bool.{cases_lt, cases_eq, cases_order}
-use Rattle.values.specs.Cells.{Cell, no_cell, cell_at, formed}
+use Rattle.values.specs.Cells.{Cell, no_cell, cell_at}
 use Rattle.values.specs.Owned.{no_own, cell_of, cells_of, total, Laid, Below, Shaped, own_formed}
 use Rattle.values.specs.Lives.{cell, changed, parts_in}
 use Rattle.values.specs.declared.own.Own.{Own}

@@ -1,4 +1,4 @@
-use Rattle.std.proofs.Common.{◌≡◌, ltb, sym, ap, ◌∙◌, take_all, le-ltb, lt-ltb}
+use Rattle.std.proofs.Common.{ltb, sym, ap, ◌∙◌, take_all, le-ltb, lt-ltb}
 use Rattle.values.specs.Cells.{each}
 use Rattle.values.specs.Values.{value}
 use Rattle.values.specs.declared.value.Value.{Value}

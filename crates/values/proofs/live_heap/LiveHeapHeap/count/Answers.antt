@@ -1,4 +1,4 @@
-use Rattle.std.proofs.Common.{ℕ, sym, ap, ◌∙◌, arith}
+use Rattle.std.proofs.Common.{arith}
 use Rattle.values.specs.Floors.{length_live}
 use Rattle.values.proofs.live_heap.LiveHeapHeap.count.Goals as goal
 
