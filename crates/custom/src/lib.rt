@@ -1,5 +1,6 @@
 // Customs: a host's own tests, asked through one trait.
 #![tactic(auto)]
+
 pub mod entries;
 pub mod making;
 pub mod marks;
