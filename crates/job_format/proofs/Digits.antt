@@ -1,6 +1,6 @@
 -- Numbers and their bytes. Assumes nothing.
-use Rattle.std.proofs.Common.{◌≡◌, ℕ, zero, suc, ◌+◌, ◌-◌, ◌*◌, ◌/◌, ◌%◌, ◌^◌, ◌<◌, ◌≤◌, Bool, true, false, List, [], ◌∷◌, ◌++◌, length, get_or, ℤ, sym, refl, ap, ◌∙◌, subst, ap₂, arith, w64, SFits, to_z, of_z}
-use Rattle.std.proofs.lemmas.Int.{to_z-of_z, of_z-to_z, ints}
+use Rattle.std.proofs.Common.{◌≡◌, ℕ, suc, ◌+◌, ◌*◌, ◌/◌, ◌%◌, ◌<◌, List, [], ◌∷◌, ◌++◌, length, refl, ap, ◌∙◌, ap₂, arith, w64, to_z}
+use Rattle.std.proofs.lemmas.Int.{of_z-to_z}
 use Rattle.job_format.specs.Frames.{wide, two}
 use Rattle.job_format.specs.Bodies.{pairs}
 use Rattle.job_format.specs.Encoding.{bytes, eight, twos, Bytes}

@@ -1,15 +1,14 @@
 -- What a record says, written and read again. Assumes nothing.
-use Rattle.std.proofs.Common.{◌≡◌, ℕ, zero, suc, ◌+◌, ◌-◌, ◌*◌, ◌/◌, ◌%◌, ◌<◌, ◌≤◌, Bool, true, false, cond, ◌&&◌, eqb, leb, ◌⊎◌, List, [], ◌∷◌, ◌++◌, length, get_or, drop, ℤ, sym, refl, ap, ◌∙◌, subst, ap₂, inl, inr, append-nil, arith, Fits-lit, w64, SFits, to_z, of_z}
-use mir.Facts.{sfits_to_z}
+use Rattle.std.proofs.Common.{◌≡◌, ℕ, suc, ◌+◌, ◌-◌, ◌/◌, ◌%◌, ◌≤◌, true, cond, eqb, leb, ◌⊎◌, List, [], ◌∷◌, ◌++◌, length, get_or, ℤ, sym, refl, ap, ◌∙◌, subst, inl, inr, arith, w64, SFits, to_z, of_z}
 use mir.ValLaws.{of_z_fits, to_z-Fits}
 use Rattle.std.proofs.lemmas.Int.{to_z-of_z}
-use Rattle.std.proofs.lemmas.Bool.{cases_eq, eqb-true, leb-true, and_parts}
+use Rattle.std.proofs.lemmas.Bool.{eqb-true, leb-true, and_parts}
 use Rattle.std.proofs.lemmas.Bool.Decides.{nat_tests}
 use Rattle.values.specs.Cells.{Cell}
-use Rattle.job_format.specs.Frames.{Raw, wide, two}
-use Rattle.job_format.specs.Bodies.{pairs, signed_at, cell_in, shaped}
+use Rattle.job_format.specs.Frames.{Raw, wide}
+use Rattle.job_format.specs.Bodies.{signed_at, cell_in, shaped}
 use Rattle.job_format.specs.Contents.{mark_in, range_in, query_in_lem}
-use Rattle.job_format.specs.Encoding.{Entry, cell_e, mark_e, range_e, text_e, query_e, bytes, eight, twos, written, Signed, Bytes}
+use Rattle.job_format.specs.Encoding.{Entry, cell_e, mark_e, range_e, text_e, query_e, written, Signed, Bytes}
 use Rattle.job_format.proofs.Digits.{two_back, two_wide, eight_of, sum8, sum_bytes, pairs_twos, twos_pairs}
 
 abbrev pub entry_of : Raw → Entry

@@ -1,12 +1,12 @@
 -- The test says yes to the encodings of good jobs, and to nothing else. Assumes nothing.
-use Rattle.std.proofs.Common.{◌≡◌, ℕ, zero, suc, ◌+◌, ◌<◌, ◌≤◌, Bool, true, false, cond, ◌&&◌, eqb, ltb, leb, ◌⊎◌, List, [], ◌∷◌, ◌++◌, map, length, get_or, take, sym, refl, ap, ◌∙◌, subst, ap₂, inl, inr, append-nil, arith, length-take}
+use Rattle.std.proofs.Common.{◌≡◌, ℕ, suc, ◌+◌, ◌<◌, Bool, true, false, cond, ◌&&◌, eqb, ltb, leb, ◌⊎◌, List, [], ◌∷◌, ◌++◌, map, length, get_or, take, sym, refl, ap, ◌∙◌, subst, ap₂, inl, inr, append-nil, arith, length-take}
 use Rattle.std.proofs.lemmas.List.{length-map, get_or-map, nil_from_length, take-take, get_or-take}
 use Rattle.std.proofs.lemmas.Bool.{eqb-true, both_ways}
 use Rattle.values.specs.Cells.{Cell as Value, each, well_formed}
 use Rattle.job_format.specs.Contents.{job_cells, job_marks, job_ranges, job_texts, job_queries, mark_in, range_in, query_in_lem}
 use Rattle.job_format.specs.Frames.{Raw, no_raw, wide, frames, records, leftover}
 use Rattle.job_format.specs.Bodies.{shaped, limit, bodies, cell_in, cell_sound, signed_at}
-use Rattle.job_format.specs.Order.{at, follows, Follow, CellsSound, cell_count, last_tag, Framed, Verified, Misframed}
+use Rattle.job_format.specs.Order.{at, follows, Follow, CellsSound, cell_count, last_tag, Verified, Misframed}
 use Rattle.job_format.specs.Encoding.{Entry, cell_e, mark_e, range_e, text_e, query_e, written, encode, Signed, sound_in, nth, Bytes, Good, cells_of, texts_of, marks_of, ranges_of, queries_of_lem}
 use Rattle.job_format.proofs.Tagged.{three}
 use Rattle.job_format.proofs.Framing.{records_frames, left_frames, frames_again, bodies_bytes}

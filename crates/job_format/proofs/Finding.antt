@@ -1,16 +1,14 @@
 -- Records found by their tag, and the laws of a job's cells. Assumes nothing.
-use Rattle.std.proofs.Common.{◌≡◌, ℕ, zero, suc, ◌+◌, ◌-◌, ◌%◌, ◌<◌, ◌≤◌, Bool, true, false, cond, ◌&&◌, eqb, ltb, leb, ◌⊎◌, List, [], ◌∷◌, ◌++◌, map, length, get_or, take, drop, Some, None, Option, sym, refl, ap, ◌∙◌, subst, ap₂, inl, inr, add-one, arith, length-drop}
+use Rattle.std.proofs.Common.{◌≡◌, ℕ, zero, suc, ◌-◌, ◌%◌, ◌<◌, ◌≤◌, Bool, true, false, cond, eqb, ltb, leb, ◌⊎◌, List, [], ◌∷◌, ◌++◌, length, get_or, take, drop, sym, refl, ap, ◌∙◌, subst, ap₂, inl, inr, add-one, arith, length-drop}
 use Rattle.std.proofs.lemmas.List.{take_more, take_all, length-map, get_or-map, drop_more, length_push}
 use Rattle.std.proofs.lemmas.Bool.{and_parts, leb-true, ltb-true, cond-true, cond-false, eq-eqb, ne_eqb, cases_eq, eqb-true}
-use Rattle.values.specs.Cells.{Cell, no_cell, cell_at, Closed, Formed, well_formed, each}
+use Rattle.values.specs.Cells.{Cell, no_cell, Closed, Formed, well_formed, each}
 use Rattle.values.specs.Held.{Lies}
-use Rattle.values.specs.declared.refusal.Refusal.{Refusal}
-use Rattle.values.specs.declared.refusal.Refusal.TheVariants.{NoValue, BadForm}
 use Rattle.values.proofs.Eaches.{each_at}
-use Rattle.job_format.specs.Frames.{Raw, no_raw, is_whole, records, leftover, Splits, front_of, rest_of}
+use Rattle.job_format.specs.Frames.{Raw, no_raw, is_whole, records, Splits, front_of}
 use Rattle.job_format.specs.Bodies.{shaped, limit, bodies, cell_sound, cell_in}
-use Rattle.job_format.specs.Order.{at, follows, Follow, CellsSound, cell_count, last_tag}
-use Rattle.job_format.specs.Contents.{Found, Located, job_cells}
+use Rattle.job_format.specs.Order.{at, Follow, CellsSound, cell_count, last_tag}
+use Rattle.job_format.specs.Contents.{Found, job_cells}
 use Rattle.job_format.proofs.Walks.{records_more, records_none, rest_shorter}
 use Rattle.job_format.proofs.Tagged.{three, bodies_same, bodies_other}
 

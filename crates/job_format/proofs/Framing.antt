@@ -1,8 +1,8 @@
 -- Frames written and read again. Assumes nothing.
-use Rattle.std.proofs.Common.{◌≡◌, ℕ, zero, suc, ◌+◌, ◌-◌, ◌*◌, ◌/◌, ◌%◌, ◌<◌, ◌≤◌, Bool, true, false, cond, ◌&&◌, leb, List, [], ◌∷◌, ◌++◌, length, get_or, take, drop, sym, refl, ap, ◌∙◌, subst, ap₂, append_assoc, append-nil, arith, length-append, length-drop, take-append-drop, length-take}
+use Rattle.std.proofs.Common.{◌≡◌, ℕ, zero, suc, ◌+◌, ◌<◌, Bool, true, false, cond, leb, List, [], ◌∷◌, ◌++◌, length, take, drop, sym, refl, ap, ◌∙◌, subst, ap₂, append_assoc, arith, length-append, length-drop, take-append-drop, length-take}
 use Rattle.std.proofs.lemmas.List.{take_at, drop_at, get_or-take, get_or-drop}
 use Rattle.std.proofs.lemmas.Bool.{and_from, le-leb}
-use Rattle.job_format.specs.Frames.{Raw, no_raw, two, wide, frame, frames, long, is_whole, front_of, rest_of, records_in, left_in, records, leftover}
+use Rattle.job_format.specs.Frames.{Raw, two, wide, frame, frames, long, is_whole, front_of, rest_of, records_in, left_in, records, leftover}
 use Rattle.job_format.specs.Order.{at}
 use Rattle.job_format.specs.Encoding.{Bytes}
 use Rattle.job_format.proofs.Digits.{two_back, two_wide}

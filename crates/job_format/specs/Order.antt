@@ -1,5 +1,5 @@
 -- Which records can follow which, and which jobs are good: by frames, order and counts first, then by cells. Assumes nothing.
-use Rattle.std.specs.Prelude.{◌≡◌, ℕ, ◌<◌, ◌≤◌, Bool, true, false, ◌&&◌, ◌⊎◌, List, [], ◌∷◌, length, take, Some, None, nat_le, nat_lt, slice_index_or}
+use Rattle.std.specs.Prelude.{◌≡◌, ℕ, ◌<◌, ◌≤◌, Bool, true, false, ◌&&◌, ◌⊎◌, List, [], ◌∷◌, length, take, Some, nat_le, nat_lt, slice_index_or}
 use Rattle.values.specs.declared.refusal.Refusal.{Refusal}
 use Rattle.job_format.specs.Tags.{cell_tag}
 use Rattle.job_format.specs.Limits.{most_bytes}

@@ -1,5 +1,6 @@
 // The job format: which bytes are a good job, and what they say.
 #![tactic(auto)]
+
 pub mod exact;
 pub mod query;
 pub mod tag;

@@ -1,11 +1,11 @@
 -- Which values a type has: what it reads, and that growing leaves it. Assumes nothing.
-use Rattle.std.proofs.Common.{◌≡◌, ℕ, zero, suc, ◌+◌, ◌<◌, ◌≤◌, Bool, true, false, cond, ◌&&◌, ◌||◌, eqb, ltb, List, [], ◌∷◌, ◌++◌, length, get_or, sym, refl, ap, ◌∙◌, subst, ap₂, arith}
+use Rattle.std.proofs.Common.{◌≡◌, ℕ, zero, suc, ◌<◌, Bool, true, ◌&&◌, eqb, ltb, List, [], ◌∷◌, length, refl, ap, ◌∙◌, ap₂, arith}
 use Rattle.std.proofs.lemmas.Bool.{and_parts, and_from, ltb-true}
-use Rattle.membership.specs.Rows.{Alt, any, plain, iter, callable, kind, list, tuple, tuple_of, dict, custom, set_of, Row, row, never, parts, all_below_lem, below, stands, Keeps, each, any_of}
+use Rattle.membership.specs.Rows.{Alt, any, plain, iter, callable, kind, list, tuple, tuple_of, dict, custom, set_of, Row, row, parts, all_below_lem, below, stands, Keeps, each, any_of}
 use Rattle.values.specs.Cells.{Cell, cell_at}
 use Rattle.custom.specs.Worlds.{Answers, World}
 use Rattle.membership.specs.Members.{keys, values, each_place, alternative_has, member_within, member}
-use Rattle.membership.proofs.Joins.{keeps_row, keeps_length}
+use Rattle.membership.proofs.Joins.{keeps_row}
 use Rattle.membership.proofs.Eachs.{each_same, any_same}
 use Rattle.membership.proofs.Kepts.{row_under}
 

@@ -1,8 +1,8 @@
 -- Two types joined, on tables as lists. Assumes nothing.
-use Rattle.std.proofs.Common.{◌≡◌, ℕ, zero, suc, ◌+◌, ◌<◌, ◌≤◌, min, Bool, true, false, cond, ◌||◌, eqb, ◌⊎◌, List, [], ◌∷◌, ◌++◌, length, get_or, take, sym, refl, ap, ◌∙◌, subst, inl, inr, arith, eq-eqb, ne_eqb}
+use Rattle.std.proofs.Common.{◌≡◌, ℕ, zero, suc, ◌<◌, ◌≤◌, true, ◌⊎◌, List, [], length, get_or, take, sym, refl, ap, ◌∙◌, subst, inl, inr, arith, eq-eqb, ne_eqb}
 use Rattle.std.proofs.lemmas.List.{take-take, length-take, get_or-take}
 use Rattle.membership.specs.Rows.{Alt, Row, row, never, Inner, inner, no_inner, put_settled_lem, below, stands, Grown, grown, intern, join, join_rows_lem, Joins, Joined, Keeps}
-use Rattle.membership.proofs.Stands.{Under, intern_stands, inner_under, put_settled_below, row_below, below_up}
+use Rattle.membership.proofs.Stands.{Under, intern_stands}
 
 pub keeps_length : (t u : List Row) → Keeps t u → length t ≤ length u
 keeps_length t u k = omega (arith, ap length k, length-take (length t) u)

@@ -1,10 +1,9 @@
 -- What holds of a table is kept as it grows. Assumes nothing.
-use Rattle.std.proofs.Common.{◌≡◌, ℕ, zero, suc, ◌+◌, ◌<◌, ◌≤◌, min, max, Bool, true, false, cond, ◌&&◌, ◌||◌, eqb, ltb, ◌⊎◌, List, [], ◌∷◌, ◌++◌, length, get_or, take, Some, None, Option, sym, refl, ap, ◌∙◌, subst, ap₂, inl, inr, zero-add, arith, length-append}
-use Rattle.std.proofs.lemmas.Bool.Decides.{nat_tests}
+use Rattle.std.proofs.Common.{◌≡◌, ℕ, zero, suc, ◌+◌, ◌<◌, ◌≤◌, min, max, Bool, true, false, cond, ◌&&◌, ◌||◌, eqb, ltb, ◌⊎◌, List, [], ◌∷◌, ◌++◌, length, get_or, Some, None, Option, sym, refl, ap, ◌∙◌, subst, ap₂, inl, inr, zero-add, arith, length-append}
 use Rattle.std.proofs.lemmas.List.{take_all, take_at, get_or_push, get_or_append_left, get_or_past}
-use Rattle.std.proofs.lemmas.Bool.{and_parts, and_from, lt-ltb, ltb-true, eq-eqb, eqb-true, eqb-false, ne_eqb, cases_lt, cases_eq, cond_both, or_parts, or_cases}
+use Rattle.std.proofs.lemmas.Bool.{and_parts, and_from, lt-ltb, ltb-true, eq-eqb, eqb-true, eqb-false, cases_lt, cond_both, or_parts}
 use Rattle.membership.specs.Rows.{Alt, any, plain, iter, callable, kind, list, tuple, tuple_of, dict, custom, set_of, Row, row, never, parts, all_below_lem, below, stands, deepest, total, depth_alts, weight_alts, one_less, made_row, find, intern, intern_by, Inner, inner, no_inner, put_settled_lem, settle, Grown, grown, Joins, join_rows_lem, join, Keeps, each, any_of, how_many, is_any, is_list, is_dict, plainly, ascends, alone, formed, sized, is_at, numbered, begins, Kept, KeptAs, same_alts}
-use Rattle.membership.proofs.Stands.{Under, intern_stands, inner_under, put_settled_below, row_below, below_up, stands_push, find_within}
+use Rattle.membership.proofs.Stands.{Under, inner_under, put_settled_below, row_below, below_up, stands_push, find_within}
 use Rattle.membership.proofs.Joins.{keeps_row, keeps_length, keeps_trans}
 use Rattle.membership.proofs.Order.{same_alts_same}
 use Rattle.membership.proofs.Uniques.{Unique, unique_push}

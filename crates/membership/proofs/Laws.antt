@@ -1,10 +1,8 @@
 -- The theorems on members. Assumes nothing.
-use Rattle.std.proofs.Common.{◌≡◌, ℕ, zero, suc, ◌+◌, ◌<◌, ◌≤◌, Bool, true, false, cond, ◌&&◌, ◌||◌, eqb, ltb, List, [], ◌∷◌, length, sym, refl, ap, ◌∙◌, subst, ap₂, arith}
+use Rattle.std.proofs.Common.{◌≡◌, ℕ, zero, suc, ◌+◌, ◌<◌, Bool, true, false, cond, ◌&&◌, eqb, ltb, List, length, sym, refl, ap, ◌∙◌, subst, arith}
 use Rattle.std.proofs.lemmas.Bool.{and_parts, ltb-true, ne_eqb}
-use Rattle.membership.specs.Rows.{Row, Grown, grown, join, judged, verdict, Outcome, granted, refused, union2, Kept, Sound, Keeps}
-use Rattle.custom.specs.Worlds.{World}
-use Rattle.membership.specs.Members.{member, UnionMembers, UnionsHaveTheirSides, GrowingKeepsMembers}
-use Rattle.membership.proofs.Kepts.{Fine, join_fine}
+use Rattle.membership.specs.Rows.{Row, Grown, join, judged, verdict, granted, refused, union2, Kept, Sound}
+use Rattle.membership.specs.Members.{UnionMembers, UnionsHaveTheirSides, GrowingKeepsMembers}
 use Rattle.membership.proofs.Belongs.{member_kept}
 use Rattle.membership.proofs.Unions.{Covers, join_covers, join_bounded}
 

@@ -1,8 +1,8 @@
 -- The held depths and weights are the true ones. Assumes nothing.
-use Rattle.std.proofs.Common.{◌≡◌, ℕ, zero, suc, ◌+◌, ◌<◌, ◌≤◌, min, max, Bool, true, false, cond, ◌&&◌, ◌||◌, eqb, ltb, List, [], ◌∷◌, ◌++◌, length, get_or, sym, refl, ap, ◌∙◌, subst, ap₂, arith}
+use Rattle.std.proofs.Common.{◌≡◌, ℕ, zero, suc, ◌+◌, ◌<◌, ◌≤◌, min, max, Bool, true, false, cond, eqb, ltb, List, [], ◌∷◌, length, get_or, refl, ap, ◌∙◌, ap₂, arith}
 use Rattle.std.proofs.lemmas.Bool.{and_parts, or_parts, ltb-true, ltb-false, eqb-true}
-use Rattle.membership.specs.Rows.{Alt, Row, row, never, parts, all_below_lem, below, deepest, total, depth_alts, weight_alts, one_less, made_row, any_of, each, sized, too_deep, too_wide, too_heavy, crowded, verdict, Sound}
-use Rattle.membership.specs.Measures.{largest, sum_of, depth_by, weight_by, depth_within, weight_within, TrueSize, SizesAreTrue}
+use Rattle.membership.specs.Rows.{Alt, Row, row, never, parts, all_below_lem, below, deepest, total, depth_alts, weight_alts, one_less, made_row, any_of, sized, too_deep, too_wide, too_heavy, crowded, verdict, Sound}
+use Rattle.membership.specs.Measures.{largest, sum_of, depth_by, weight_by, depth_within, weight_within, SizesAreTrue}
 use Rattle.membership.proofs.Eachs.{each_at}
 use Rattle.membership.proofs.Kepts.{row_under}
 

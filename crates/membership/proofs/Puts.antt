@@ -1,11 +1,11 @@
 -- Alternatives put into a kept order. Assumes nothing.
-use Rattle.std.proofs.Common.{◌≡◌, ℕ, zero, suc, ◌+◌, ◌<◌, ◌≤◌, Bool, true, false, cond, ◌&&◌, ◌||◌, eqb, ltb, List, [], ◌∷◌, ◌++◌, length, get_or, Ordering, Less, Equal, Greater, sym, refl, ap, ◌∙◌, subst, ap₂, arith}
+use Rattle.std.proofs.Common.{◌≡◌, ℕ, suc, ◌<◌, Bool, true, false, cond, ◌&&◌, ◌||◌, List, [], ◌∷◌, Ordering, Less, Equal, Greater, sym, refl, ap, ◌∙◌, subst, ap₂, arith}
 use Rattle.std.proofs.lemmas.Bool.Decides.{nat_tests}
-use Rattle.std.proofs.lemmas.Bool.{and_parts, and_from, lt-ltb, ltb-true}
+use Rattle.std.proofs.lemmas.Bool.{and_parts, and_from}
 use Rattle.std.specs.Ordering.{is_eq, is_lt}
-use Rattle.membership.specs.Rows.{Alt, any, plain, iter, callable, kind, list, tuple, tuple_of, dict, custom, set_of, rank, numbers, order, compared, put, put_by, put_settled_lem, settle, Inner, inner, with_part, each, any_of, how_many, is_any, is_list, is_dict, ascends}
+use Rattle.membership.specs.Rows.{Alt, any, plain, iter, callable, kind, list, tuple, tuple_of, dict, custom, set_of, rank, numbers, compared, put, put_by, put_settled_lem, settle, Inner, inner, with_part, each, any_of, how_many, is_any, is_list, is_dict, ascends}
 use Rattle.membership.proofs.Order.{flip, order_flip, order_same, order_trans, same_alt, equal_from}
-use Rattle.membership.proofs.Eachs.{each_under, each_true, none_any}
+use Rattle.membership.proofs.Eachs.{each_under, each_true}
 
 abbrev pub before : Alt → Alt → Bool
 before x y = is_lt (compared x y)

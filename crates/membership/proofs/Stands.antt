@@ -1,7 +1,7 @@
 -- A part is numbered below its type. Assumes nothing.
-use Rattle.std.proofs.Common.{◌≡◌, ℕ, zero, suc, ◌+◌, ◌<◌, ◌≤◌, Bool, true, false, cond, ◌&&◌, ltb, ◌⊎◌, List, [], ◌∷◌, ◌++◌, map, length, get_or, take, Some, None, Option, Ordering, Less, Equal, Greater, sym, refl, ap, ◌∙◌, subst, inl, inr, add-zero, zero-add, add-one, arith, length-append}
+use Rattle.std.proofs.Common.{◌≡◌, ℕ, zero, suc, ◌+◌, ◌<◌, ◌≤◌, Bool, true, false, cond, List, [], ◌∷◌, ◌++◌, length, get_or, Some, None, Option, Ordering, Less, Equal, Greater, refl, subst, add-zero, arith, length-append}
 use Rattle.std.proofs.lemmas.Bool.Decides.{nat_tests}
-use Rattle.membership.specs.Rows.{Alt, any, plain, iter, callable, kind, list, tuple, tuple_of, dict, custom, set_of, Row, row, never, Inner, inner, no_inner, with_part, settle, put, put_by, put_settled_lem, compared, parts, all_below_lem, below, stands, find, intern, intern_by, made_row, same_alts}
+use Rattle.membership.specs.Rows.{Alt, any, plain, iter, callable, kind, list, tuple, tuple_of, dict, custom, set_of, Row, never, Inner, inner, with_part, settle, put, put_by, put_settled_lem, compared, parts, all_below_lem, below, stands, find, intern, intern_by, made_row, same_alts}
 
 -- each part below m is below n where m ≤ n
 pub all_below_up : (m n : ℕ) (ps : List ℕ) → m ≤ n → all_below_lem m ps ≡ true → all_below_lem n ps ≡ true

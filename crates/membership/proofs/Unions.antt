@@ -1,18 +1,17 @@
 -- The members of a union. Assumes nothing.
-use Rattle.std.proofs.Common.{◌≡◌, ℕ, zero, suc, ◌+◌, ◌<◌, ◌≤◌, Bool, true, false, cond, ◌&&◌, ◌||◌, eqb, ltb, ◌⊎◌, List, [], ◌∷◌, ◌++◌, length, get_or, sym, refl, ap, ◌∙◌, subst, ap₂, inl, inr, arith}
-use Rattle.std.specs.Ordering.{is_eq}
+use Rattle.std.proofs.Common.{◌≡◌, ℕ, zero, suc, ◌<◌, ◌≤◌, Bool, true, false, cond, ◌&&◌, ◌||◌, eqb, ◌⊎◌, List, [], length, sym, refl, ap, ◌∙◌, subst, ap₂, inl, inr, arith}
 use Rattle.std.proofs.lemmas.Bool.Decides.{nat_tests}
-use Rattle.std.proofs.lemmas.Bool.{and_parts, and_from, and_cases, or_parts, or_cases, or_left, or_right, ltb-true, eqb-true, cond_both}
-use Rattle.membership.specs.Rows.{Alt, any, plain, iter, callable, kind, list, tuple, tuple_of, dict, custom, set_of, Row, row, never, parts, all_below_lem, below, stands, Keeps, each, any_of, how_many, is_list, is_dict, Inner, inner, no_inner, settle, put_settled_lem, compared, intern, Grown, grown, Joins, join, join_rows_lem, Kept, holds_list, holds_dict, merges}
+use Rattle.std.proofs.lemmas.Bool.{and_parts, and_from, and_cases, or_parts, or_cases, or_left, or_right, eqb-true, cond_both}
+use Rattle.membership.specs.Rows.{Alt, any, plain, iter, callable, kind, list, tuple, tuple_of, dict, custom, set_of, Row, row, parts, all_below_lem, Keeps, each, any_of, is_list, is_dict, Inner, inner, no_inner, settle, put_settled_lem, compared, Grown, grown, Joins, join, join_rows_lem, Kept, holds_list, holds_dict, merges}
 use Rattle.values.specs.Cells.{Cell, cell_at}
 use Rattle.custom.specs.Worlds.{Answers, World}
-use Rattle.membership.specs.Members.{keys, values, each_place, alternative_has, member_within, member, UnionMembers}
-use Rattle.membership.proofs.Joins.{keeps_row, keeps_length, keeps_trans}
+use Rattle.membership.specs.Members.{keys, values, alternative_has, member_within, member}
+use Rattle.membership.proofs.Joins.{keeps_length, keeps_trans}
 use Rattle.membership.proofs.Order.{same_alt, equal_from}
 use Rattle.membership.proofs.Stands.{Under}
 use Rattle.membership.proofs.Eachs.{each_under, each_and, any_under, any_same, any_none}
 use Rattle.membership.proofs.Puts.{only, only_none, item_none, item_one, pair_none, pair_one, any_union}
-use Rattle.membership.proofs.Kepts.{row_under, Fine, First, first_of, intern_row_lem, Form, row_form, Apart, apart, JoinsFine, join_fine, joined, under_x, under_y, items_fine, pairs_fine, vals_fine, row_fine, rows_fine}
+use Rattle.membership.proofs.Kepts.{row_under, Fine, First, first_of, intern_row_lem, row_form, Apart, apart, JoinsFine, join_fine, joined, under_x, under_y, items_fine, pairs_fine, vals_fine, row_fine, rows_fine}
 use Rattle.membership.proofs.Belongs.{below_each, has_same, has_at, member_is, member_kept}
 
 abbrev pub only_list : ℕ → Alt → Bool

@@ -1,5 +1,5 @@
 -- Equal types have equal numbers: a standing type's alternatives are found under its own number. Assumes nothing.
-use Rattle.std.proofs.Common.{◌≡◌, ℕ, zero, suc, ◌+◌, ◌<◌, ◌≤◌, Bool, true, false, cond, ◌||◌, eqb, ltb, List, [], ◌∷◌, ◌++◌, length, get_or, Some, None, Option, sym, refl, ap, ◌∙◌, subst, arith, length-append, ltb-false, ltb-true}
+use Rattle.std.proofs.Common.{◌≡◌, ℕ, zero, suc, ◌+◌, ◌<◌, ◌≤◌, Bool, true, false, cond, ◌||◌, eqb, ltb, List, [], ◌∷◌, ◌++◌, length, Some, None, Option, refl, ap, arith, length-append, ltb-false, ltb-true}
 use Rattle.std.proofs.lemmas.List.{get_or_append_left, get_or_push}
 use Rattle.membership.specs.Rows.{Alt, Row, row, never, find, intern, intern_by, made_row, same_alts, Grown, grown, join, join_rows_lem, Joins, Inner, inner, no_inner, put_settled_lem}
 use Rattle.membership.proofs.Order.{same_alts_refl}

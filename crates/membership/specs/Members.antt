@@ -1,8 +1,8 @@
 -- Which values a type has, on a heap and under a custom. Assumes nothing.
-use Rattle.std.specs.Prelude.{◌≡◌, ℕ, zero, suc, ◌+◌, ◌/◌, ◌%◌, ◌<◌, Bool, true, false, ◌&&◌, ◌||◌, List, [], ◌∷◌, length, ℤ, ◌==◌}
+use Rattle.std.specs.Prelude.{◌≡◌, ℕ, zero, suc, ◌/◌, ◌%◌, ◌<◌, Bool, true, false, ◌&&◌, ◌||◌, List, [], ◌∷◌, length, ◌==◌}
 use Rattle.values.specs.Cells.{Cell, cell_at}
 use Rattle.custom.specs.Worlds.{Answers, World}
-use Rattle.membership.specs.Rows.{Alt, any, plain, iter, callable, kind, list, tuple, tuple_of, dict, custom, set_of, Row, row, any_of, each, merges, Grown, grown, granted, union2, Keeps, Sound}
+use Rattle.membership.specs.Rows.{Alt, any, plain, iter, callable, kind, list, tuple, tuple_of, dict, custom, set_of, Row, row, any_of, each, merges, Grown, granted, union2, Keeps, Sound}
 
 -- flags add up: the flag f (1, 2 or 4) is among them
 abbrev pub flagged : ℕ → ℕ → Bool

@@ -1,5 +1,5 @@
 -- What is read of a type: an alternative, the elements of a fixed tuple, whether it is just Any or one plain type. Assumes nothing.
-use Rattle.std.specs.Prelude.{ℕ, Bool, true, false, List, [], ◌∷◌, Some, None, Option, slice_index_or}
+use Rattle.std.specs.Prelude.{ℕ, Bool, false, List, [], ◌∷◌, Some, None, Option, slice_index_or}
 use Rattle.membership.specs.Rows.{Alt, any, plain, iter, callable, kind, list, tuple, tuple_of, dict, custom, set_of, Row, row, is_any}
 
 -- the alternative i of the type n

@@ -1,6 +1,6 @@
 -- Samples, evaluated. Assumes nothing.
-use Rattle.std.specs.Prelude.{◌≡◌, ℕ, zero, suc, ◌+◌, Bool, true, false, eqb, List, [], ◌∷◌, length, pos, refl}
-use Rattle.membership.specs.Rows.{Alt, plain, list, dict, any, set_of, tuple, tuple_of, iter, callable, kind, custom, Row, Grown, grown, start, intern, join, row, verdict, union2, single, Outcome, granted, refused, judged}
+use Rattle.std.specs.Prelude.{◌≡◌, ℕ, zero, suc, Bool, true, false, List, [], ◌∷◌, pos, refl}
+use Rattle.membership.specs.Rows.{plain, list, dict, tuple, Row, Grown, grown, start, row, union2, single, Outcome, granted, refused}
 use Rattle.values.specs.Cells.{Cell}
 use Rattle.custom.specs.Worlds.{World}
 use Rattle.membership.specs.Members.{member}
