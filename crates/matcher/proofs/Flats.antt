@@ -1,12 +1,11 @@
 -- The rows of a table and the nodes that they mean. Assumes nothing.
-use Rattle.std.proofs.Common.{◌≡◌, ℕ, zero, suc, ◌+◌, ◌-◌, ◌<◌, ◌≤◌, max, Bool, true, false, cond, ◌&&◌, eqb, ltb, leb, List, [], ◌∷◌, ◌++◌, map, length, get_or, take, drop, Some, None, Ok, Err, Result, sym, refl, ap, ◌∙◌, subst, arith, length-append, length-drop, length-take}
+use Rattle.std.proofs.Common.{◌≡◌, ℕ, zero, suc, ◌+◌, ◌<◌, ◌≤◌, max, Bool, true, false, cond, ◌&&◌, ltb, List, [], ◌∷◌, ◌++◌, length, get_or, take, drop, Ok, Err, Result, sym, refl, ap, ◌∙◌, arith, length-drop}
 use lib.ListN.{length-map}
 use Rattle.std.proofs.lemmas.List.{get_or-map, get_or-take, get_or-drop, length-take-le, take-append-le, drop-append-le, drop_at, take_all, map_push, drop_more, drop_all}
 use Rattle.std.proofs.lemmas.Bool.{and_parts, and_from, ltb-true, leb-true, lt-ltb, le-leb, le-ltb}
 use Rattle.values.specs.declared.refusal.Refusal.{Refusal}
 use Rattle.values.specs.declared.refusal.Refusal.TheVariants.{NoNode}
-use Rattle.matcher.specs.declared.kind.Kind.{Kind}
-use Rattle.matcher.specs.Nodes.{Node, node, node_at_lem, no_node, node_says, node_kid, depths, depth_over, highest, all_below, find, same_node, used, places}
+use Rattle.matcher.specs.Nodes.{Node, node, node_at_lem, no_node, node_says, node_kid, depths, depth_over, highest, all_below, find, same_node}
 use Rattle.matcher.specs.Tables.{no_row, kids_of, node_of, nodes_of, spans, Deep, row_says}
 use Rattle.matcher.specs.declared.rows.Row.{Row}
 use Rattle.matcher.proofs.Grows.{depths_push, depths_long}

@@ -1,5 +1,5 @@
 -- The rows of a table, and the nodes that they mean. Assumes nothing.
-use Rattle.std.specs.Prelude.{◌≡◌, ℕ, ◌+◌, Bool, true, false, cond, ◌&&◌, List, [], ◌∷◌, map, length, get_or, take, drop, Ok, Err, Result, nat_le, nat_lt, slice_index, slice_index_or}
+use Rattle.std.specs.Prelude.{◌≡◌, ℕ, ◌+◌, Bool, true, cond, ◌&&◌, List, [], ◌∷◌, map, length, get_or, take, drop, Ok, Err, Result, nat_le, nat_lt, slice_index, slice_index_or}
 use Rattle.matcher.specs.Nodes.{Node, node, depths}
 use Rattle.matcher.specs.declared.kind.Kind.TheVariants.{IsNever}
 use Rattle.values.specs.declared.refusal.Refusal.{Refusal}

@@ -1,5 +1,6 @@
 // Matchers: kinds of nodes, what a store of nodes is, and two stores.
 #![tactic(auto)]
+
 pub mod alloc;
 mod forms;
 pub mod kind;

@@ -1,4 +1,4 @@
-use Rattle.std.proofs.Common.{◌≡◌, sym, ◌∙◌}
+use Rattle.std.proofs.Common.{sym, ◌∙◌}
 use Rattle.matcher.proofs.Flats.{below_stop, below_more, below_end}
 use Rattle.matcher.proofs.forms.all_below.Goals as goal
 

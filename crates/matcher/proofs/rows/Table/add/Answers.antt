@@ -1,27 +1,27 @@
-use Rattle.std.proofs.Common.{◌≡◌, ℕ, ◌+◌, ◌≤◌, Bool, true, cond, List, [], ◌∷◌, ◌++◌, length, is_ok, None, vec_items, vec_len, sym, refl, ap, ◌∙◌, subst, ap₂, arith, length-append}
+use Rattle.std.proofs.Common.{◌≡◌, ℕ, ◌+◌, ◌≤◌, true, cond, List, [], ◌∷◌, ◌++◌, length, is_ok, vec_items, vec_len, sym, refl, ap, ◌∙◌, subst, ap₂, arith}
 use Rattle.std.proofs.lemmas.Bool.{leb-true}
-use Rattle.matcher.specs.Nodes.{Node, node, all_below, fault, is_granted, valid, used, places, depths, depth_over}
+use Rattle.matcher.specs.Nodes.{Node, node, all_below, is_granted, valid, used, places}
 use Rattle.matcher.specs.Tables.{nodes_of, spans, Deep}
 use Rattle.matcher.specs.declared.rows.Row.{Row}
 use Rattle.matcher.proofs.Grows.{granted, valid_push, used-push}
 use Rattle.matcher.proofs.Flats.{long, nodes_push, spans_push, deep_push}
 use Rattle.matcher.proofs.rows.Table.add.Goals as goal
 
-pub depth-over-requires : goal.depth-over-requires
-depth-over-requires c =
+pub depth_over-requires : goal.depth_over-requires
+depth_over-requires c =
     let s = c.args.self.now in
     let ns = nodes_of s.rows.items s.pool.items in
     let g = granted ns (node c.args.kind c.args.number c.args.kids.now) (ap is_granted c.requires.fine) in
     let e : length ns ≡ vec_len s.rows = omega (arith, long s.rows.items s.pool.items, s.rows.ok.0) in
     subst (λ n. all_below n c.args.kids.now ≡ true) e g.below
 
-pub push-reserved-requires : goal.push-reserved-requires
-push-reserved-requires c =
+pub push_reserved-requires : goal.push_reserved-requires
+push_reserved-requires c =
     let s = c.args.self.now in
     let r = leb-true _ _ c.requires.room in
     omega (arith, r, s.taken, s.rows_reserved)
 
-module _ (c : goal.After-extend-from-slice) where
+module _ (c : goal.After-extend_from_slice) where
   abbrev rs : List Row
   rs = c.args.self.now.rows.items
 
@@ -38,7 +38,7 @@ module _ (c : goal.After-extend-from-slice) where
   made = node c.args.kind c.args.number kids
 
   abbrev row : Row
-  row = record { kind = c.args.kind; number = c.args.number; depth = c.depth-over.result; first = c.len.result; count = length kids }
+  row = record { kind = c.args.kind; number = c.args.number; depth = c.depth_over.result; first = c.len.result; count = length kids }
 
   pool_long : vec_len c.args.self.now.pool ≡ length pool
   pool_long = omega (arith, c.args.self.now.pool.ok.0)
@@ -46,60 +46,50 @@ module _ (c : goal.After-extend-from-slice) where
   room : used ns + places made ≤ c.args.self.now.limit
   room = leb-true (used ns + places made) c.args.self.now.limit c.requires.room
 
-  extended : is_ok c.extend-from-slice.result ≡ true
-  extended = c.extend-from-slice.ensures.succeeds (omega (arith, room, c.args.self.now.taken, c.args.self.now.pool_reserved))
+  extended : is_ok c.extend_from_slice.result ≡ true
+  extended = c.extend_from_slice.ensures.succeeds (omega (arith, room, c.args.self.now.taken, c.args.self.now.pool_reserved))
 
-  pub items : vec_items c.extend-from-slice.new.self ≡ pool ++ kids
-  items = c.extend-from-slice.ensures.items ∙ ap (λ b. cond b (pool ++ kids) pool) extended
+  pub items : vec_items c.extend_from_slice.new.self ≡ pool ++ kids
+  items = c.extend_from_slice.ensures.items ∙ ap (λ b. cond b (pool ++ kids) pool) extended
 
-  pub count : vec_len c.extend-from-slice.new.self ≡ vec_len c.args.self.now.pool + length kids
-  count = c.extend-from-slice.ensures.len ∙ ap (λ b. cond b (vec_len c.args.self.now.pool + length kids) (vec_len c.args.self.now.pool)) extended
+  pub count : vec_len c.extend_from_slice.new.self ≡ vec_len c.args.self.now.pool + length kids
+  count = c.extend_from_slice.ensures.len ∙ ap (λ b. cond b (vec_len c.args.self.now.pool + length kids) (vec_len c.args.self.now.pool)) extended
 
   spanned : spans (length pool) rs ≡ true
   spanned = subst (λ n. spans n rs ≡ true) pool_long c.args.self.now.within
 
-  pub nodes : nodes_of (vec_items c.push-reserved.new.self) (vec_items c.extend-from-slice.new.self) ≡ ns ++ made ∷ []
-  nodes = ap₂ nodes_of c.push-reserved.ensures.items items ∙ nodes_push rs pool kids row spanned (c.len.ensures ∙ pool_long) refl
+  pub nodes : nodes_of (vec_items c.push_reserved.new.self) (vec_items c.extend_from_slice.new.self) ≡ ns ++ made ∷ []
+  nodes = ap₂ nodes_of c.push_reserved.ensures.items items ∙ nodes_push rs pool kids row spanned (c.len.ensures ∙ pool_long) refl
 
   pub valid_after : valid c.args.self.now.limit (ns ++ made ∷ []) ≡ true
   valid_after = valid_push c.args.self.now.limit ns made c.args.self.now.granted (ap is_granted c.requires.fine) c.requires.room
 
-  pub spans_after : spans (vec_len c.extend-from-slice.new.self) (rs ++ row ∷ []) ≡ true
-  spans_after = spans_push (vec_len c.args.self.now.pool) (vec_len c.extend-from-slice.new.self) rs row c.args.self.now.within (omega (arith, count)) (omega (arith, count, c.len.ensures))
+  pub spans_after : spans (vec_len c.extend_from_slice.new.self) (rs ++ row ∷ []) ≡ true
+  spans_after = spans_push (vec_len c.args.self.now.pool) (vec_len c.extend_from_slice.new.self) rs row c.args.self.now.within (omega (arith, count)) (omega (arith, count, c.len.ensures))
 
   pub deep_after : Deep (rs ++ row ∷ []) (ns ++ made ∷ [])
-  deep_after = deep_push rs ns row made (long rs pool) c.args.self.now.deep c.depth-over.ensures
+  deep_after = deep_push rs ns row made (long rs pool) c.args.self.now.deep c.depth_over.ensures
 
-pub invariant-of-self : goal.invariant-of-self
-invariant-of-self c =
+pub invariant_of-self : goal.invariant_of-self
+invariant_of-self c =
     let s = c.args.self.now in
-    let e = c.push-reserved.ensures.items in (
-      subst (λ x. valid s.limit x ≡ true) (sym (nodes c)) (valid_after c),
-      (
-        s.small,
-        (
-          subst (λ x. spans (vec_len c.extend-from-slice.new.self) x ≡ true) (sym e) (spans_after c),
-          (
-            ap used (nodes c) ∙ omega (arith, used-push (ns c) (made c), s.taken, count c, c.push-reserved.ensures.len),
-            (
-              subst (λ x. Deep x (nodes_of (vec_items c.push-reserved.new.self) (vec_items c.extend-from-slice.new.self))) (sym e) (subst (Deep (rs c ++ row c ∷ [])) (sym (nodes c)) (deep_after c)),
-              (
-                omega (arith, s.rows_reserved, c.push-reserved.ensures.capacity),
-                (omega (arith, s.pool_reserved, c.extend-from-slice.ensures.capacity), tt),
-              ),
-            ),
-          ),
-        ),
-      ),
-    )
+    let e = c.push_reserved.ensures.items in record {
+      granted = subst (λ x. valid s.limit x ≡ true) (sym (nodes c)) (valid_after c);
+      small = s.small;
+      within = subst (λ x. spans (vec_len c.extend_from_slice.new.self) x ≡ true) (sym e) (spans_after c);
+      taken = ap used (nodes c) ∙ omega (arith, used-push (ns c) (made c), s.taken, count c, c.push_reserved.ensures.len);
+      deep = subst (λ x. Deep x (nodes_of (vec_items c.push_reserved.new.self) (vec_items c.extend_from_slice.new.self))) (sym e) (subst (Deep (rs c ++ row c ∷ [])) (sym (nodes c)) (deep_after c));
+      rows_reserved = omega (arith, s.rows_reserved, c.push_reserved.ensures.capacity);
+      pool_reserved = omega (arith, s.pool_reserved, c.extend_from_slice.ensures.capacity);
+    }
 
 pub returns : goal.returns
 returns c =
     let s = c.args.self.now in
     let pool_is : vec_len s.pool ≡ length s.pool.items = omega (arith, s.pool.ok.0) in
-    let made_row : Row = record { kind = c.args.kind; number = c.args.number; depth = c.depth-over.result; first = c.len.result; count = length c.args.kids.now } in
+    let made_row : Row = record { kind = c.args.kind; number = c.args.number; depth = c.depth_over.result; first = c.len.result; count = length c.args.kids.now } in
     record {
       number = omega (arith, c.len-n.ensures, long s.rows.items s.pool.items, s.rows.ok.0);
-      nodes = ap₂ nodes_of c.push-reserved.ensures.items c.in-Ok.ensures.items ∙ nodes_push s.rows.items s.pool.items c.args.kids.now made_row (subst (λ n. spans n s.rows.items ≡ true) pool_is s.within) (c.len.ensures ∙ pool_is) refl;
+      nodes = ap₂ nodes_of c.push_reserved.ensures.items c.in-Ok.ensures.items ∙ nodes_push s.rows.items s.pool.items c.args.kids.now made_row (subst (λ n. spans n s.rows.items ≡ true) pool_is s.within) (c.len.ensures ∙ pool_is) refl;
       limit = refl;
     }

@@ -1,4 +1,4 @@
-use Rattle.std.proofs.Common.{◌≡◌, get_or, sym, ap, ◌∙◌, arith}
+use Rattle.std.proofs.Common.{◌≡◌, get_or, ap, ◌∙◌, arith}
 use Rattle.matcher.specs.Nodes.{depths}
 use Rattle.matcher.specs.Tables.{nodes_of}
 use Rattle.matcher.proofs.Grows.{valid_low}

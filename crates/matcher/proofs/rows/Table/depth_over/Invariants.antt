@@ -1,4 +1,4 @@
-use Rattle.std.proofs.Common.{◌≡◌, ◌≤◌, max, length, drop, vec_items, vec_len}
+use Rattle.std.proofs.Common.{◌≡◌, ◌≤◌, max, length, drop, vec_items}
 use Rattle.matcher.specs.Nodes.{highest, depths, deepest}
 use Rattle.matcher.specs.Tables.{nodes_of}
 use Rattle.matcher.proofs.rows.Table.depth_over.Given as goal

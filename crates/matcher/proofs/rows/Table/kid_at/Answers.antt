@@ -1,6 +1,6 @@
-use Rattle.std.proofs.Common.{◌≡◌, ◌+◌, ◌<◌, ◌≤◌, length, get_or, Ok, sym, ap, ◌∙◌, subst, arith}
+use Rattle.std.proofs.Common.{◌+◌, ◌<◌, length, get_or, Ok, ap, ◌∙◌, arith}
 use Rattle.std.proofs.lemmas.List.{get_or_default}
-use Rattle.matcher.specs.Tables.{nodes_of, no_row}
+use Rattle.matcher.specs.Tables.{nodes_of}
 use Rattle.matcher.proofs.Flats.{long, kid_past, kid_none, kid_is}
 use Rattle.matcher.proofs.rows.Table.kid_at.Goals as goal
 

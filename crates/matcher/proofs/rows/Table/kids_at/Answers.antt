@@ -1,5 +1,4 @@
-use Rattle.std.proofs.Common.{◌≡◌, ◌+◌, ◌≤◌, length, Ok, Err, sym, ap, ◌∙◌, arith}
-use Rattle.matcher.specs.Tables.{kids_of, no_row}
+use Rattle.std.proofs.Common.{◌+◌, ◌≤◌, length, Ok, sym, ap, ◌∙◌, arith}
 use Rattle.matcher.proofs.Flats.{got, not_got, found, span_at, kids_long}
 use Rattle.matcher.proofs.rows.Table.kids_at.Goals as goal
 

@@ -1,6 +1,6 @@
-use Rattle.std.proofs.Common.{◌≡◌, ℕ, ◌+◌, true, List, [], ◌∷◌, length, get_or, sym, refl, ap, ◌∙◌, subst, ap₂, arith}
+use Rattle.std.proofs.Common.{◌≡◌, ℕ, true, List, [], sym, refl, ap, ◌∙◌, subst, arith}
 use Rattle.matcher.specs.Nodes.{valid, used, depths}
-use Rattle.matcher.specs.Tables.{nodes_of, spans, Deep, no_row}
+use Rattle.matcher.specs.Tables.{nodes_of, spans, Deep}
 use Rattle.matcher.specs.declared.rows.Row.{Row}
 use Rattle.matcher.proofs.rows.Table.new.Goals as goal
 
@@ -16,31 +16,21 @@ empty_deep : Deep [] []
 unfolding depths
 empty_deep n = refl
 
-pub invariant-of-result : goal.invariant-of-result
-invariant-of-result c =
-    let rows = c.in-ok-rows.rows in
-    let pool = c.in-ok-pool.pool in
-    let a = c.in-ok-rows.ensures in
-    let b = c.in-ok-pool.ensures in
-    let e = none rows.items pool.items a.items in (
-      subst (λ x. valid c.args.limit x ≡ true) (sym e) (empty_valid c.args.limit),
-      (
-        omega arith,
-        (
-          ap (spans pool.len) a.items,
-          (
-            ap used e ∙ omega (arith, a.len, b.len),
-            (
-              subst (λ x. Deep x (nodes_of rows.items pool.items)) (sym a.items) (subst (Deep []) (sym e) empty_deep),
-              (
-                a.capacity,
-                (b.capacity, tt),
-              ),
-            ),
-          ),
-        ),
-      ),
-    )
+pub invariant_of-result : goal.invariant_of-result
+invariant_of-result c =
+    let rows = c.in_ok-rows.rows in
+    let pool = c.in_ok-pool.pool in
+    let a = c.in_ok-rows.ensures in
+    let b = c.in_ok-pool.ensures in
+    let e = none rows.items pool.items a.items in record {
+      granted = subst (λ x. valid c.args.limit x ≡ true) (sym e) (empty_valid c.args.limit);
+      small = omega arith;
+      within = ap (spans pool.len) a.items;
+      taken = ap used e ∙ omega (arith, a.len, b.len);
+      deep = subst (λ x. Deep x (nodes_of rows.items pool.items)) (sym a.items) (subst (Deep []) (sym e) empty_deep);
+      rows_reserved = a.capacity;
+      pool_reserved = b.capacity;
+    }
 
 pub returns : goal.returns
-returns c = (none c.in-ok-rows.rows.items c.in-ok-pool.pool.items c.in-ok-rows.ensures.items, refl)
+returns c = (none c.in_ok-rows.rows.items c.in_ok-pool.pool.items c.in_ok-rows.ensures.items, refl)

@@ -1,4 +1,4 @@
-use Rattle.std.proofs.Common.{◌≡◌, rules}
+use Rattle.std.proofs.Common.{rules}
 use Rattle.matcher.specs.Nodes.{place}
 use Rattle.matcher.proofs.rows.Table.place.Goals as goal
 
