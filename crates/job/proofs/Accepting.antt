@@ -1,5 +1,5 @@
 -- The test says yes to the encodings of good jobs, and to nothing else. Assumes nothing.
-use Rattle.std.proofs.Common.{◌≡◌, ℕ, ◌<◌, ◌≤◌, Bool, true, false, cond, ◌&&◌, ltb, ◌⊎◌, List, length, take, Some, None, Ok, Err, Option, Result, subst, inl, inr, arith}
+use Rattle.std.proofs.Common.{◌≡◌, ℕ, ◌<◌, Bool, true, false, cond, ◌&&◌, ltb, ◌⊎◌, List, length, take, Some, None, Ok, Err, Option, Result, subst, inl, inr, arith}
 use Rattle.std.proofs.lemmas.Bool.{both_ways}
 use Rattle.values.specs.Cells.{each, well_formed}
 use Rattle.values.specs.declared.refusal.Refusal.{Refusal}

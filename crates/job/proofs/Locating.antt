@@ -1,12 +1,12 @@
 -- A walk that looks for a record by its tag. Assumes nothing.
-use Rattle.std.proofs.Common.{◌≡◌, ℕ, ◌+◌, ◌-◌, ◌<◌, ◌≤◌, false, List, [], ◌∷◌, ◌++◌, length, get_or, take, drop, sym, refl, ap, ◌∙◌, arith}
+use Rattle.std.proofs.Common.{◌≡◌, ℕ, ◌+◌, ◌-◌, ◌≤◌, false, List, [], ◌∷◌, ◌++◌, length, take, drop, refl, ap, ◌∙◌, arith}
 use Rattle.std.proofs.lemmas.List.{take_more}
 use Rattle.job_format.specs.Frames.{Raw, no_raw, is_whole, records, Splits}
 use Rattle.job_format.specs.Bodies.{bodies}
 use Rattle.job_format.specs.Contents.{Located}
 use Rattle.job_format.proofs.Walks.{Stands, start, here_within, here_is, goes_on}
 use Rattle.job_format.proofs.Tagged.{bodies_other, count_same}
-use Rattle.job_format.proofs.Finding.{bodies_here, bodies_there, bodies_none, less, found, passed, missing}
+use Rattle.job_format.proofs.Finding.{bodies_here, bodies_there, bodies_none, found, passed, missing}
 
 -- n records are behind, and of v that begin with the tag t, `left` are still to come before the one that is looked for
 pub record Looks (all : List ℕ) (t v left n : ℕ) (s : List ℕ) : Type 0 where

@@ -1,11 +1,11 @@
 -- One record of each pass over a job. Assumes nothing.
-use Rattle.std.proofs.Common.{◌≡◌, ℕ, ◌+◌, ◌-◌, ◌%◌, ◌<◌, ◌≤◌, Bool, true, false, cond, ◌&&◌, eqb, ltb, leb, ◌⊎◌, List, [], ◌∷◌, ◌++◌, length, get_or, take, Some, None, Option, sym, refl, ap, ◌∙◌, subst, ap₂, inl, inr, arith, length-take, below_more}
+use Rattle.std.proofs.Common.{◌≡◌, ℕ, ◌+◌, ◌-◌, ◌%◌, ◌<◌, ◌≤◌, Bool, true, false, cond, ◌&&◌, eqb, ltb, leb, List, [], ◌∷◌, ◌++◌, length, take, Some, None, Option, sym, refl, ap, ◌∙◌, subst, ap₂, inl, inr, arith, length-take, below_more}
 use Rattle.std.proofs.lemmas.List.{take_more, take_all}
-use Rattle.std.proofs.lemmas.Bool.{and_parts, leb-true, ltb-true, cond-true, eq-eqb}
+use Rattle.std.proofs.lemmas.Bool.{and_parts, leb-true}
 use Rattle.values.specs.Cells.{each, well_formed}
 use Rattle.values.specs.declared.refusal.Refusal.{Refusal}
 use Rattle.values.specs.declared.refusal.Refusal.TheVariants.{NoValue, BadForm}
-use Rattle.job_format.specs.Frames.{Raw, no_raw, is_whole, records, leftover, Splits}
+use Rattle.job_format.specs.Frames.{Raw, no_raw, is_whole, records, Splits}
 use Rattle.job_format.specs.Bodies.{shaped, limit, bodies, cell_fault_lem, cell_sound, cell_in}
 use Rattle.job_format.specs.Order.{at, follows, Follow, CellsSound, cell_count, last_tag, Framed, Misframed, Unsound, Verified}
 use Rattle.job.specs.Seens.{had, can_follow_lem, with_record_lem, Sees}

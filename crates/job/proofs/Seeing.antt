@@ -1,7 +1,7 @@
 -- What the first pass keeps is what the records leave. Assumes nothing.
-use Rattle.std.proofs.Common.{◌≡◌, ℕ, zero, suc, ◌+◌, ◌-◌, ◌<◌, ◌≤◌, Bool, true, false, cond, ◌&&◌, eqb, ltb, leb, ◌⊎◌, List, [], ◌∷◌, ◌++◌, length, get_or, take, sym, refl, ap, ◌∙◌, subst, ap₂, inl, inr, arith}
-use Rattle.std.proofs.lemmas.Bool.{cases_eq, cases_lt, cases_Bool, eq-eqb, ne_eqb, lt-ltb, le-ltb, le-leb, lt-leb, leb-true, ltb-true, and_parts, cond-true, cond-false}
-use Rattle.job_format.specs.Frames.{Raw, no_raw}
+use Rattle.std.proofs.Common.{◌≡◌, ℕ, ◌+◌, ◌<◌, ◌≤◌, Bool, true, false, cond, ◌&&◌, eqb, ltb, leb, ◌⊎◌, List, [], ◌∷◌, ◌++◌, length, sym, refl, ap, ◌∙◌, inl, inr, arith}
+use Rattle.std.proofs.lemmas.Bool.{cases_eq, cases_lt, eq-eqb, ne_eqb, lt-leb, leb-true, ltb-true, cond-true, cond-false}
+use Rattle.job_format.specs.Frames.{Raw}
 use Rattle.job_format.specs.Bodies.{shaped, limit, bodies}
 use Rattle.job_format.specs.Order.{last_tag, follows}
 use Rattle.job_format.proofs.Tagged.{last_push, bodies_other, count_same, three}

@@ -1,5 +1,6 @@
 // A job: raw bytes, tested once, then a heap, customs, texts and queries.
 #![tactic(auto)]
+
 mod asking;
 mod bodies;
 mod contents;

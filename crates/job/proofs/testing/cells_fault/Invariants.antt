@@ -1,4 +1,4 @@
-use Rattle.std.proofs.Common.{length, take}
+use Rattle.std.proofs.Common.{length}
 use Rattle.job_format.specs.Frames.{records}
 use Rattle.job_format.specs.Order.{CellsSound}
 use Rattle.job_format.proofs.Walks.{Stands}

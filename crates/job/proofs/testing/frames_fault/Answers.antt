@@ -1,7 +1,7 @@
-use Rattle.std.proofs.Common.{◌+◌, length, take, sym, ap, subst, arith}
+use Rattle.std.proofs.Common.{◌+◌, length, take, sym, subst, arith}
 use Rattle.std.proofs.lemmas.Bool.{eqb-true, eqb-false}
 use Rattle.job_format.specs.Frames.{records}
-use Rattle.job.specs.Seens.{Sees, can_follow_lem}
+use Rattle.job.specs.Seens.{Sees}
 use Rattle.job.specs.declared.tally.Seen.{Seen}
 use Rattle.job_format.proofs.Walks.{start}
 use Rattle.job.proofs.Seeing.{blank}
@@ -11,12 +11,12 @@ use Rattle.job.proofs.testing.frames_fault.Goals as goal
 pub loop-record-init : goal.loop-record-init
 loop-record-init c = (start c.args.bytes.now, (λ i h. absurd (omega arith)), blank)
 
-pub returns-then-not-can-follow : goal.returns-then-not-can-follow
-returns-then-not-can-follow c = stop c.args.bytes.now c.loop-record.s.now c.loop-record.n c.in-Some.record.tag c.in-Some.record.body.now c.in-Some.record.rest.now c.loop-record.invariant.0 c.in-Some.ensures c.loop-record.seen c.loop-record.invariant.1 c.loop-record.invariant.2 c.requires (sym c.if-not-can-follow.ensures)
+pub returns-then-not-can_follow : goal.returns-then-not-can_follow
+returns-then-not-can_follow c = stop c.args.bytes.now c.loop-record.s.now c.loop-record.n c.in-Some.record.tag c.in-Some.record.body.now c.in-Some.record.rest.now c.loop-record.invariant.0 c.in-Some.ensures c.loop-record.seen c.loop-record.invariant.1 c.loop-record.invariant.2 c.requires (sym c.if-not-can_follow.ensures)
 
-pub with-record-seen-requires : goal.with-record-seen-requires
-with-record-seen-requires c =
-    let r = room c.args.bytes.now c.loop-record.s.now c.loop-record.n c.in-Some.record.tag c.in-Some.record.body.now c.in-Some.record.rest.now c.loop-record.invariant.0 c.in-Some.ensures c.loop-record.seen c.loop-record.invariant.1 c.loop-record.invariant.2 c.requires (sym c.if-not-can-follow.ensures) in
+pub with_record-seen-requires : goal.with_record-seen-requires
+with_record-seen-requires c =
+    let r = room c.args.bytes.now c.loop-record.s.now c.loop-record.n c.in-Some.record.tag c.in-Some.record.body.now c.in-Some.record.rest.now c.loop-record.invariant.0 c.in-Some.ensures c.loop-record.seen c.loop-record.invariant.1 c.loop-record.invariant.2 c.requires (sym c.if-not-can_follow.ensures) in
     record { run = r.0; cells = r.1 }
 
 pub loop-record-smaller : goal.loop-record-smaller
@@ -24,15 +24,15 @@ loop-record-smaller c = shorter c.args.bytes.now c.loop-record.s.now c.loop-reco
 
 pub loop-record-preserved : goal.loop-record-preserved
 loop-record-preserved c =
-    let p = pass c.args.bytes.now c.loop-record.s.now c.loop-record.n c.in-Some.record.tag c.in-Some.record.body.now c.in-Some.record.rest.now c.loop-record.invariant.0 c.in-Some.ensures c.loop-record.seen c.loop-record.invariant.1 c.loop-record.invariant.2 (sym c.if-not-can-follow.ensures) in
-    (p.0, p.1, subst (λ (s : Seen). Sees s (take (c.loop-record.n + 1) (records c.args.bytes.now))) (sym c.with-record-seen.ensures) p.2)
+    let p = pass c.args.bytes.now c.loop-record.s.now c.loop-record.n c.in-Some.record.tag c.in-Some.record.body.now c.in-Some.record.rest.now c.loop-record.invariant.0 c.in-Some.ensures c.loop-record.seen c.loop-record.invariant.1 c.loop-record.invariant.2 (sym c.if-not-can_follow.ensures) in
+    (p.0, p.1, subst (λ (s : Seen). Sees s (take (c.loop-record.n + 1) (records c.args.bytes.now))) (sym c.with_record-seen.ensures) p.2)
 
-pub returns-then-not-is-spent : goal.returns-then-not-is-spent
-returns-then-not-is-spent c =
-    let no_end = eqb-false (length c.loop-record.s.now) 0 (sym c.if-not-is-spent.ensures) in
-    cut_short c.args.bytes.now c.loop-record.s.now c.loop-record.n c.loop-record.invariant.0 c.in-default.ensures c.requires c.loop-record.invariant.1 (omega (arith, no_end))
+pub returns-then-not-is_spent : goal.returns-then-not-is_spent
+returns-then-not-is_spent c =
+    let no_end = eqb-false (length c.loop-record.s.now) 0 (sym c.if-not-is_spent.ensures) in
+    cut_short c.args.bytes.now c.loop-record.s.now c.loop-record.n c.loop-record.invariant.0 c.in_default.ensures c.requires c.loop-record.invariant.1 (omega (arith, no_end))
 
 pub returns : goal.returns
 returns c =
-    let end = eqb-true (length c.loop-record.s.now) 0 (sym c.if-not-is-spent.ensures) in
-    (framed_all c.args.bytes.now c.loop-record.s.now c.loop-record.n c.loop-record.invariant.0 c.in-default.ensures c.requires c.loop-record.invariant.1 (omega (arith, end)), all_cells c.args.bytes.now c.loop-record.s.now c.loop-record.n c.loop-record.invariant.0 c.in-default.ensures c.loop-record.seen c.loop-record.invariant.2)
+    let end = eqb-true (length c.loop-record.s.now) 0 (sym c.if-not-is_spent.ensures) in
+    (framed_all c.args.bytes.now c.loop-record.s.now c.loop-record.n c.loop-record.invariant.0 c.in_default.ensures c.requires c.loop-record.invariant.1 (omega (arith, end)), all_cells c.args.bytes.now c.loop-record.s.now c.loop-record.n c.loop-record.invariant.0 c.in_default.ensures c.loop-record.seen c.loop-record.invariant.2)

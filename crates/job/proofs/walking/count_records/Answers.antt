@@ -1,6 +1,4 @@
-use Rattle.std.proofs.Common.{◌≡◌, ◌+◌, ◌≤◌, length, drop, sym, refl, ap, ◌∙◌, arith, rules}
-use Rattle.job_format.specs.Frames.{records}
-use Rattle.job_format.specs.Bodies.{bodies}
+use Rattle.std.proofs.Common.{◌+◌, ◌≤◌, length, ap, arith, rules}
 use Rattle.job_format.proofs.Finding.{bodies_here, bodies_there, bodies_none, less}
 use Rattle.job.proofs.walking.count_records.Goals as goal
 use Rattle.job.proofs.walking.count_records.Goals.{then-record-byte, else-record-byte}
@@ -8,8 +6,8 @@ use Rattle.job.proofs.walking.count_records.Goals.{then-record-byte, else-record
 pub loop-record-init : goal.loop-record-init
 loop-record-init c = (omega arith, omega arith)
 
-pub overflow-add-n : goal.overflow-add-n
-overflow-add-n c = let p : c.loop-record.n + 1 ≤ 60001 = omega (arith, c.loop-record.invariant.1, c.requires) in search rules
+pub overflow_add-n : goal.overflow_add-n
+overflow_add-n c = let p : c.loop-record.n + 1 ≤ 60001 = omega (arith, c.loop-record.invariant.1, c.requires) in search rules
 
 pub loop-record-smaller : goal.loop-record-smaller
 loop-record-smaller c = less c.args.byte c.in-Some.ensures
@@ -24,4 +22,4 @@ loop-record-preserved c =
     ]
 
 pub returns : goal.returns
-returns c = omega (arith, c.loop-record.invariant.0, ap length (bodies_none c.args.byte c.loop-record.s.now c.in-default.ensures))
+returns c = omega (arith, c.loop-record.invariant.0, ap length (bodies_none c.args.byte c.loop-record.s.now c.in_default.ensures))

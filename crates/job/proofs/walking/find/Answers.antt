@@ -1,4 +1,4 @@
-use Rattle.std.proofs.Common.{◌≡◌, ℕ, ◌+◌, ◌≤◌, length, sym, ap, subst, arith, rules}
+use Rattle.std.proofs.Common.{ℕ, ◌+◌, ◌≤◌, sym, subst, arith, rules}
 use Rattle.job_format.proofs.Finding.{less}
 use Rattle.job.proofs.Locating.{Looks, looks_start, looks_found, looks_passed, looks_other, looks_missing}
 use Rattle.job.proofs.walking.find.Goals as goal
@@ -10,8 +10,8 @@ loop-record-init c = looks_start c.args.bytes.now c.args.byte c.args.v
 pub returns-then-left-eq0 : goal.returns-then-left-eq0
 returns-then-left-eq0 c = looks_found c.loop-record.invariant c.in-Some.ensures c.if-record-byte.true c.if-left-eq0.true
 
-pub overflow-add-n : goal.overflow-add-n
-overflow-add-n c = let p : c.loop-record.n + 1 ≤ 60001 = omega (arith, c.loop-record.invariant.stands.bound, c.requires) in search rules
+pub overflow_add-n : goal.overflow_add-n
+overflow_add-n c = let p : c.loop-record.n + 1 ≤ 60001 = omega (arith, c.loop-record.invariant.stands.bound, c.requires) in search rules
 
 pub loop-record-smaller : goal.loop-record-smaller
 loop-record-smaller c = less c.args.byte c.in-Some.ensures
@@ -23,4 +23,4 @@ loop-record-preserved c = elim c.if-record-byte.branch [
 ]
 
 pub returns : goal.returns
-returns c = looks_missing c.loop-record.invariant c.in-default.ensures
+returns c = looks_missing c.loop-record.invariant c.in_default.ensures

@@ -1,10 +1,16 @@
-use Rattle.std.proofs.Common.{◌≡◌, length, sym, ap, ◌∙◌, arith}
+use Rattle.std.proofs.Common.{length, ap, ◌∙◌, arith}
 use Rattle.job_format.specs.Frames.{records}
 use Rattle.job_format.specs.Bodies.{bodies}
 use Rattle.job.proofs.raw.RawJob.verified.Goals as goal
 
-pub count-records-cells-requires : goal.count-records-cells-requires
-count-records-cells-requires c = omega (arith, ap length c.as-slice.ensures.value, c.requires.framed.small)
+pub count_records-cells-requires : goal.count_records-cells-requires
+count_records-cells-requires c = omega (arith, ap length c.as_slice.ensures.value, c.requires.framed.small)
 
-pub invariant-of-result : goal.invariant-of-result
-invariant-of-result c = (c.count-records-cells.ensures ∙ (λ i. length (bodies (c.number.ensures i) (records (c.as-slice.ensures.value i)))), (c.requires.framed.small, (c.requires.framed.follow, (c.requires.framed.whole, (c.requires.cells, tt)))))
+pub invariant_of-result : goal.invariant_of-result
+invariant_of-result c = record {
+  counted = c.count_records-cells.ensures ∙ (λ i. length (bodies (c.number.ensures i) (records (c.as_slice.ensures.value i))));
+  small = c.requires.framed.small;
+  follow = c.requires.framed.follow;
+  whole = c.requires.framed.whole;
+  sound = c.requires.cells;
+}

@@ -1,4 +1,4 @@
-use Rattle.std.proofs.Common.{◌≡◌, ℕ, true, List, length, vec_items, sym, ap, ◌∙◌, subst, arith}
+use Rattle.std.proofs.Common.{◌≡◌, ℕ, true, List, length, vec_items, sym, subst, arith}
 use Rattle.std.proofs.lemmas.List.{length-map}
 use Rattle.job_format.specs.Frames.{records}
 use Rattle.job_format.specs.Bodies.{bodies, shaped, cell_in}

@@ -6,4 +6,4 @@ use Rattle.job_format.specs.Contents.{query_in_lem}
 use Rattle.job.proofs.verified.Job.queries.Goals as goal
 
 pub returns : goal.returns
-returns c = c.count-of.ensures ∙ sym (length-map (bodies 5 (records (vec_items c.args.self.now.bytes))) query_in_lem)
+returns c = c.count_of.ensures ∙ sym (length-map (bodies 5 (records (vec_items c.args.self.now.bytes))) query_in_lem)

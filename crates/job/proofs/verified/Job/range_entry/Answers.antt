@@ -1,4 +1,4 @@
-use Rattle.std.proofs.Common.{◌≡◌, ℕ, length, vec_items, sym, refl, ap, ◌∙◌, arith, w64, SFits, rules}
+use Rattle.std.proofs.Common.{◌≡◌, length, vec_items, ◌∙◌, arith, w64, SFits, rules}
 use Rattle.std.proofs.lemmas.Int.{to_z-of_z}
 use Rattle.std.proofs.lemmas.Bool.{eqb-true}
 use Rattle.job_format.specs.Frames.{records}
@@ -7,23 +7,23 @@ use Rattle.job_format.specs.Contents.{range_in}
 use Rattle.job_format.proofs.Having.{found_shaped, stood_map, past_map}
 use Rattle.job.proofs.verified.Job.range_entry.Goals as goal
 
-pub eight-at-requires : goal.eight-at-requires
-eight-at-requires c =
+pub eight_at-requires : goal.eight_at-requires
+eight_at-requires c =
     let b = c.in-Some.place.body.now in
     let l : length b ≡ 16 = eqb-true (length b) 16 (found_shaped 3 (vec_items c.args.self.now.bytes) c.args.self.now.follow c.args.v b c.in-Some.ensures.found) in
     omega arith
 
-pub eight-at-requires-in-Some : goal.eight-at-requires-in-Some
-eight-at-requires-in-Some c =
+pub eight_at-requires-in-Some : goal.eight_at-requires-in-Some
+eight_at-requires-in-Some c =
     let b = c.in-Some.place.body.now in
     let l : length b ≡ 16 = eqb-true (length b) 16 (found_shaped 3 (vec_items c.args.self.now.bytes) c.args.self.now.follow c.args.v b c.in-Some.ensures.found) in
     omega arith
 
 pub returns-in-Some : goal.returns-in-Some
 returns-in-Some c =
-    let f : SFits w64 c.eight-at.result = search rules in
-    let h : SFits w64 c.eight-at-in-Some.result = search rules in
-    stood_map range_in (bodies 3 (records (vec_items c.args.self.now.bytes))) c.args.v c.in-Some.place.body.now _ c.in-Some.ensures.found (λ i. record { low = (to_z-of_z w64 c.eight-at.result f ∙ c.eight-at.ensures) i; high = (to_z-of_z w64 c.eight-at-in-Some.result h ∙ c.eight-at-in-Some.ensures) i })
+    let f : SFits w64 c.eight_at.result = search rules in
+    let h : SFits w64 c.eight_at-in-Some.result = search rules in
+    stood_map range_in (bodies 3 (records (vec_items c.args.self.now.bytes))) c.args.v c.in-Some.place.body.now _ c.in-Some.ensures.found (λ i. record { low = (to_z-of_z w64 c.eight_at.result f ∙ c.eight_at.ensures) i; high = (to_z-of_z w64 c.eight_at-in-Some.result h ∙ c.eight_at-in-Some.ensures) i })
 
 pub returns-in-None : goal.returns-in-None
 returns-in-None c = past_map range_in (bodies 3 (records (vec_items c.args.self.now.bytes))) c.args.v c.in-None.ensures
