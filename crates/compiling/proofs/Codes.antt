@@ -1,10 +1,10 @@
 -- A type's code is made of the codes of its parts. Assumes nothing.
-use Rattle.std.proofs.Common.{◌≡◌, ℕ, zero, suc, ◌+◌, ◌-◌, ◌<◌, ◌≤◌, Bool, true, false, cond, ◌&&◌, List, [], ◌∷◌, ◌++◌, length, get_or, Some, None, Option, sym, refl, ap, ◌∙◌, subst, ap₂, arith, length-append}
-use Rattle.matcher.specs.declared.kind.Kind.TheVariants.{IsList, IsSet, IsDict, IsAny, IsTupleElems, IsTupleElems1, IsTupleElems2, IsTupleOf, IsAnyOfTwo, IsNone}
+use Rattle.std.proofs.Common.{◌≡◌, ℕ, zero, suc, ◌<◌, ◌≤◌, Bool, true, false, cond, ◌&&◌, List, [], ◌∷◌, ◌++◌, length, Some, None, Option, refl, ap, ◌∙◌, ap₂, arith, length-append}
+use Rattle.matcher.specs.declared.kind.Kind.TheVariants.{IsList, IsSet, IsDict, IsTupleElems, IsTupleElems1, IsTupleElems2, IsTupleOf, IsAnyOfTwo, IsNone}
 use Rattle.membership.specs.Rows.{Alt, any, plain, iter, callable, kind, list, tuple, tuple_of, dict, custom, set_of, Row, row, parts}
 use Rattle.membership.specs.Readings.{just_any, plain_of}
 use Rattle.compiling.proofs.Fines.{all_under, AltsFine, Fines}
-use Rattle.compiling.specs.Code.{Codes, leaf, type_id, code_item, code_list, code_set, code_dict, code_all, code_pair, code_tuple, code_each, code_tuple_of, code_basic, code_beside, code_none_or, code_two, code_alts, code_union, code_by, code}
+use Rattle.compiling.specs.Code.{Codes, leaf, type_id, code_item, code_all, code_pair, code_tuple, code_each, code_basic, code_beside, code_none_or, code_two, code_alts, code_union, code_by, code}
 use Rattle.compiling.specs.Written.{is_none}
 use Rattle.compiling.specs.declared.tasks.Op.{Op}
 use Rattle.compiling.specs.declared.tasks.Op.TheVariants.{Write, ListOf, SetOf, DictOf, AnyOfTwo, AnyOf}

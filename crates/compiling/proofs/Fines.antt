@@ -1,8 +1,8 @@
 -- What compiling reads off a sound table, row by row. Assumes nothing.
-use Rattle.std.proofs.Common.{◌≡◌, ℕ, zero, suc, ◌+◌, ◌<◌, ◌≤◌, Bool, true, false, ◌&&◌, ◌||◌, ltb, List, [], ◌∷◌, length, get_or, Some, None, Option, sym, refl, ap, ◌∙◌, subst, arith}
+use Rattle.std.proofs.Common.{◌≡◌, ℕ, ◌+◌, ◌<◌, ◌≤◌, Bool, true, false, ltb, List, [], ◌∷◌, length, Some, None, Option, refl, arith}
 use Rattle.std.proofs.lemmas.Bool.{and_parts, or_parts, ltb-true, ltb-false}
 use Rattle.matcher.specs.Nodes.{plain_type_number}
-use Rattle.membership.specs.Rows.{Alt, any, plain, iter, callable, kind, list, tuple, tuple_of, dict, custom, set_of, Row, row, never, parts, elements, depth_alts, weight_alts, one_less, all_below_lem, below, stands, each, any_of, plainly, too_long, too_deep, too_wide, too_heavy, Sound}
+use Rattle.membership.specs.Rows.{Alt, any, plain, iter, callable, kind, list, tuple, tuple_of, dict, custom, set_of, Row, row, never, parts, depth_alts, weight_alts, one_less, all_below_lem, below, stands, each, any_of, plainly, too_long, too_deep, too_wide, too_heavy, Sound}
 use Rattle.membership.specs.Readings.{plain_alt}
 use Rattle.membership.proofs.Kepts.{row_under, row_form}
 use Rattle.membership.proofs.Laws.{kept_of}

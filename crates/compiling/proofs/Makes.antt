@@ -1,7 +1,7 @@
 -- Compiling a type: where it starts, and the root that it leaves. Assumes nothing.
-use Rattle.std.proofs.Common.{◌≡◌, ℕ, suc, ◌+◌, ◌-◌, ◌*◌, ◌<◌, ◌≤◌, Bool, true, List, [], ◌∷◌, ◌++◌, length, get_or, sym, refl, ap, ◌∙◌, subst, arith, length-append}
+use Rattle.std.proofs.Common.{◌≡◌, ℕ, suc, ◌+◌, ◌*◌, ◌<◌, ◌≤◌, Bool, true, List, [], ◌∷◌, ◌++◌, length, get_or, sym, refl, ap, ◌∙◌, subst, arith, length-append}
 use Rattle.matcher.specs.Nodes.{Node, valid, used}
-use Rattle.membership.specs.Rows.{custom, Row, row}
+use Rattle.membership.specs.Rows.{Row, row}
 use Rattle.compiling.proofs.Fines.{Fines}
 use Rattle.compiling.specs.Code.{State, state, code, execs, Safe}
 use Rattle.compiling.specs.Tasks.{Going}

@@ -1,12 +1,11 @@
 -- The values of a type, by those of its parts, in the words of the nodes. Assumes nothing.
-use Rattle.std.proofs.Common.{◌≡◌, ℕ, zero, suc, ◌+◌, ◌/◌, ◌%◌, ◌<◌, ◌≤◌, Bool, true, false, cond, ◌&&◌, ◌||◌, eqb, List, [], ◌∷◌, ◌++◌, map, length, get_or, Some, None, Option, sym, refl, ap, ◌∙◌, subst, ap₂, arith}
-use Rattle.std.proofs.lemmas.Bool.Decides.{nat_tests}
+use Rattle.std.proofs.Common.{◌≡◌, ℕ, ◌/◌, ◌%◌, Bool, true, false, ◌&&◌, ◌||◌, eqb, List, [], ◌∷◌, map, Some, sym, refl, ap, ◌∙◌, ap₂, arith}
 use Rattle.values.specs.Cells.{Cell, cell_at}
 use Rattle.custom.specs.Worlds.{World}
-use Rattle.matcher.specs.Meaning.{Test, nay, all, entries, placed, some}
+use Rattle.matcher.specs.Meaning.{Test, all, entries, placed, some}
 use Rattle.membership.specs.Rows.{Alt, any, plain, iter, callable, kind, list, tuple, tuple_of, dict, custom, set_of, Row, row, is_any, each, any_of}
 use Rattle.membership.specs.Readings.{just_any, plain_of, plain_alt}
-use Rattle.membership.specs.Members.{flagged, keys, values, each_place, alternative_has, member}
+use Rattle.membership.specs.Members.{keys, values, each_place, alternative_has, member}
 use Rattle.membership.proofs.Belongs as belongs
 use Rattle.compiling.proofs.Fines.{Fines}
 

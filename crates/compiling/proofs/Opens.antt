@@ -1,12 +1,12 @@
 -- What a task is expanded to stands for the same steps, costs less, and names what stands. Assumes nothing.
-use Rattle.std.proofs.Common.{◌≡◌, ℕ, zero, suc, ◌+◌, ◌-◌, ◌*◌, ◌<◌, ◌≤◌, Bool, true, false, cond, ◌&&◌, eqb, ltb, List, [], ◌∷◌, ◌++◌, length, get_or, drop, Some, None, Option, sym, refl, ap, ◌∙◌, subst, ap₂, append_assoc, arith, length-append}
+use Rattle.std.proofs.Common.{◌≡◌, ℕ, ◌+◌, ◌-◌, ◌*◌, ◌<◌, ◌≤◌, Bool, true, false, cond, ◌&&◌, eqb, ltb, List, [], ◌∷◌, ◌++◌, length, get_or, drop, Some, None, Option, sym, refl, ap, subst, ap₂, append_assoc, arith, length-append}
 use Rattle.std.proofs.lemmas.List.{drop_more, drop_all}
 use Rattle.std.proofs.lemmas.Bool.{ltb-true, ltb-false, ne_eqb}
 use Rattle.matcher.specs.declared.kind.Kind.TheVariants.{IsList, IsSet, IsDict, IsAny, IsNever, IsIterable, IsCallable, IsType, IsTupleElems, IsTupleElems0, IsTupleElems1, IsTupleElems2, IsTupleOf, IsAnyOfTwo, IsNone, Custom as CustomKind}
 use Rattle.membership.specs.Rows.{Alt, any, plain, iter, callable, kind, list, tuple, tuple_of, dict, custom, set_of, Row, row, parts}
 use Rattle.membership.specs.Readings.{alt_at, just_any, plain_of, elems}
-use Rattle.compiling.proofs.Fines.{all_under, AltsFine, Fines}
-use Rattle.compiling.specs.Code.{Codes, leaf, type_id, value_op, item_op, beside_none_op, code_item, code_list, code_set, code_dict, code_all, code_pair, code_tuple, code_each, code_tuple_of, code_basic, code_beside, code_none_or, code_two, code_alts, code_union, code}
+use Rattle.compiling.proofs.Fines.{all_under, Fines}
+use Rattle.compiling.specs.Code.{Codes, leaf, type_id, value_op, code_item, code_list, code_set, code_dict, code_all, code_pair, code_tuple, code_each, code_tuple_of, code_basic, code_beside, code_none_or, code_two, code_alts, code_union, code}
 use Rattle.compiling.specs.Written.{is_none}
 use Rattle.compiling.specs.Tasks.{ops_of, pending, cost, load, Fine, AllFine, listed, leaf_task, item_task, each_task, expand_list, expand_set, expand_dict, expand_pair, elems_by, expand_tuple_of, expand_basic, beside_task, expand_none_or, expand_two, expand_union, expand_alternatives, expand_elements, expand}
 use Rattle.compiling.specs.declared.tasks.Op.{Op}

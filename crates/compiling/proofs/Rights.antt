@@ -4,16 +4,16 @@ use Rattle.std.proofs.lemmas.List.{take_at}
 use Rattle.std.proofs.lemmas.Bool.{and_parts, and_from, lt-ltb, le-leb, ltb-true, leb-true, le-ltb, lt-leb}
 use Rattle.custom.specs.Customs.{Custom, Open}
 use Rattle.custom.specs.Worlds.{world}
-use Rattle.matcher.specs.Nodes.{Node, node, used, valid, place, put}
+use Rattle.matcher.specs.Nodes.{Node, used, valid, place}
 use Rattle.matcher.proofs.Grows.{valid_used}
 use Rattle.membership.specs.Rows.{Row, row, Sound}
 use Rattle.compiling.specs.Limits.{most_annotations}
 use Rattle.compiling.specs.Written.{written}
-use Rattle.compiling.specs.Outcomes.{Entered, Outcome, granted, refused, added, alloc_ty_lem, Right, CompiledTypesHaveTheirMembers}
+use Rattle.compiling.specs.Outcomes.{Entered, granted, refused, added, alloc_ty_lem, Right, CompiledTypesHaveTheirMembers}
 use Rattle.compiling.specs.Code.{State, state, op_node, exec, execs, code}
 use Rattle.compiling.specs.declared.annotation.Annotation.{Annotation}
 use Rattle.compiling.specs.declared.tasks.Op.{Op}
-use Rattle.compiling.proofs.Fines.{Fines, fines_of}
+use Rattle.compiling.proofs.Fines.{fines_of}
 use Rattle.compiling.proofs.Makes.{root_means, root_within}
 use Rattle.compiling.proofs.Writtens.{code_writes}
 

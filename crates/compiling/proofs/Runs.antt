@@ -1,20 +1,18 @@
 -- Steps taken one after another, and what they leave. Assumes nothing.
-use Rattle.std.proofs.Common.{◌≡◌, ℕ, zero, suc, ◌+◌, ◌-◌, ◌*◌, ◌<◌, ◌≤◌, Bool, true, false, cond, ◌&&◌, eqb, leb, List, [], ◌∷◌, ◌++◌, length, get_or, take, drop, sym, refl, ap, ◌∙◌, subst, ap₂, append_assoc, append-nil, arith, length-append}
-use Rattle.std.proofs.lemmas.List.{take_at, drop_at}
+use Rattle.std.proofs.Common.{◌≡◌, ℕ, ◌+◌, ◌-◌, ◌*◌, ◌<◌, ◌≤◌, Bool, true, false, cond, ◌&&◌, eqb, leb, List, [], ◌∷◌, ◌++◌, length, sym, refl, ap, ◌∙◌, subst, ap₂, append_assoc, append-nil, arith, length-append}
+use Rattle.std.proofs.lemmas.List.{drop_at}
 use Rattle.std.proofs.lemmas.Bool.{and_from, le-leb}
-use Rattle.matcher.specs.Nodes.{Node, node, depths, arity, numbered, valid, used, places, roomy, place, put}
-use Rattle.matcher.specs.declared.kind.Kind.{Kind}
-use Rattle.matcher.specs.declared.kind.Kind.TheVariants.{IsAny, IsList, IsListOf, IsDict, IsDictOf, IsSet, IsSetOf, IsAnyOfTwo, IsAnyOf}
+use Rattle.matcher.specs.Nodes.{Node, arity, numbered, valid, used, places, roomy, place, put}
 use Rattle.matcher.proofs.Grows.{grants}
-use Rattle.compiling.specs.Code.{State, state, takes, kids_of, rest_of, op_node, chosen, exec, execs, Safe, Grants, Can}
+use Rattle.compiling.specs.Code.{State, state, takes, kids_of, chosen, exec, execs, Safe, Grants, Can}
 use Rattle.compiling.specs.Written.{every_wildcard, some_wildcard}
 use Rattle.compiling.specs.declared.tasks.Op.{Op}
 use Rattle.compiling.specs.declared.tasks.Op.TheVariants.{Write, ListOf, SetOf, DictOf, AnyOfTwo, AnyOf}
 use Rattle.matcher.specs.Meaning.{Test, kid_tests, tests}
 use Rattle.custom.specs.Worlds.{World}
 use Rattle.compiling.proofs.Takes.{execs-++, exec_is}
-use Rattle.compiling.proofs.Says.{Said, said_refl, said_trans, kids_same, kids_append, valid_speak, Spoken, spoken, op_says, Kids, chosen_says}
-use Rattle.compiling.proofs.Writes.{good_below, Front, front_refl, front_trans, Good, good_later, good_deeper, good_append, Fit, fit_grants, Placed, placed}
+use Rattle.compiling.proofs.Says.{Said, said_refl, said_trans, kids_same, kids_append, valid_speak, spoken, op_says, Kids, chosen_says}
+use Rattle.compiling.proofs.Writes.{good_below, Front, front_refl, front_trans, Good, good_later, good_deeper, good_append, Fit, fit_grants, placed}
 
 -- a step over k kids
 abbrev pub OpFine : Op → ℕ → Type 0

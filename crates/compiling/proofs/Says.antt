@@ -1,5 +1,5 @@
 -- What the nodes of a store accept. Assumes nothing.
-use Rattle.std.proofs.Common.{◌≡◌, ℕ, zero, suc, ◌+◌, ◌-◌, ◌*◌, ◌<◌, ◌≤◌, Bool, true, false, cond, ◌&&◌, ◌||◌, eqb, ltb, ◌⊎◌, List, [], ◌∷◌, ◌++◌, map, length, get_or, sym, refl, ap, ◌∙◌, subst, ap₂, inl, inr, append_assoc, append-nil, arith, length-append}
+use Rattle.std.proofs.Common.{◌≡◌, ℕ, ◌+◌, ◌<◌, ◌≤◌, Bool, true, false, cond, ◌&&◌, ◌||◌, eqb, ltb, ◌⊎◌, List, [], ◌∷◌, ◌++◌, length, get_or, sym, refl, ap, ◌∙◌, subst, ap₂, inl, inr, append_assoc, append-nil, arith, length-append}
 use Rattle.std.proofs.lemmas.List.{get_or_append_left, get_or_push}
 use Rattle.std.proofs.lemmas.Bool.{and_parts, and_from, lt-ltb, ltb-true, cases_lt, eqb-true}
 use Rattle.std.proofs.lemmas.Slice.Eq.{bytes_eq-Decides}
@@ -7,8 +7,8 @@ use Rattle.matcher.specs.Nodes.{Node, node, no_node, node_at_lem, all_below, fau
 use Rattle.matcher.specs.declared.kind.Kind.{Kind}
 use Rattle.matcher.specs.declared.kind.Kind.TheVariants.{IsAny, IsNever, IsStr, IsList, IsListOf, IsTupleOf, IsTupleElems, IsTupleElems0, IsTupleElems1, IsTupleElems2, IsDict, IsDictOf, IsSet, IsSetOf, IsAnyOfTwo, IsAnyOf, IsCallable, IsType, IsIterable, IsInt, IsBool, IsNone, StarlarkTypeIdMatcher, Custom}
 use Rattle.matcher.proofs.Grows.{granted, place_low, place_plain, place_sharing, put_new, put_old}
-use Rattle.matcher.specs.Meaning.{Test, nay, first, second, all, entries, placed, some, says, kind_says, kid_tests, node_test, tests_from, tests, accepts}
-use Rattle.values.specs.Cells.{Cell, cell_at}
+use Rattle.matcher.specs.Meaning.{Test, nay, all, entries, some, says, kid_tests, node_test, tests_from, tests}
+use Rattle.values.specs.Cells.{cell_at}
 use Rattle.custom.specs.Worlds.{World}
 use Rattle.compiling.specs.Code.{chosen}
 use Rattle.compiling.specs.Written.{is_any_kind_lem, wildcard, every_wildcard, some_wildcard}

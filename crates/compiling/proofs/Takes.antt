@@ -1,9 +1,9 @@
 -- One step of the stacks. Assumes nothing.
-use Rattle.std.proofs.Common.{◌≡◌, ℕ, zero, suc, ◌+◌, ◌-◌, ◌<◌, ◌≤◌, Bool, true, false, cond, List, [], ◌∷◌, ◌++◌, length, get_or, take, drop, sym, refl, ap, ◌∙◌, subst, ap₂, append_assoc, append-nil, arith, length-append}
+use Rattle.std.proofs.Common.{◌≡◌, ℕ, ◌-◌, Bool, List, [], ◌∷◌, ◌++◌, length, take, drop, sym, refl, ap, ◌∙◌, subst, ap₂, append_assoc, append-nil, arith, length-append}
 use Rattle.std.proofs.lemmas.List.{take_rest, take_at, drop_at}
 use Rattle.matcher.specs.Nodes.{Node, place, put}
-use Rattle.compiling.specs.Code.{State, state, kids_of, rest_of, takes, op_node, chosen, exec, execs, Can, Wrote, Grants}
-use Rattle.compiling.specs.Tasks.{advance, Ready, Fine, expand, listed}
+use Rattle.compiling.specs.Code.{State, state, kids_of, takes, op_node, chosen, exec, execs, Can, Wrote, Grants}
+use Rattle.compiling.specs.Tasks.{advance, Ready, expand, listed}
 use Rattle.membership.specs.Rows.{Row}
 use Rattle.compiling.specs.declared.tasks.Op.{Op}
 use Rattle.compiling.specs.declared.tasks.Task.{Task}

@@ -1,18 +1,18 @@
 -- One turn of the loop. Assumes nothing.
-use Rattle.std.proofs.Common.{◌≡◌, ℕ, zero, suc, ◌+◌, ◌-◌, ◌*◌, ◌<◌, ◌≤◌, Bool, true, false, cond, List, [], ◌∷◌, ◌++◌, length, take, sym, refl, ap, ◌∙◌, subst, ap₂, append_assoc, append-nil, arith, length-append, length-take}
-use Rattle.compiling.specs.Limits.{most_load, most_results, most_tasks}
-use Rattle.membership.specs.Rows.{Row, row}
+use Rattle.std.proofs.Common.{◌≡◌, ℕ, ◌+◌, ◌-◌, ◌<◌, ◌≤◌, Bool, List, [], ◌∷◌, ◌++◌, length, sym, refl, ap, ◌∙◌, subst, append_assoc, append-nil, arith, length-append, length-take}
+use Rattle.compiling.specs.Limits.{most_tasks}
+use Rattle.membership.specs.Rows.{Row}
 use Rattle.membership.specs.Readings.{alt_at}
 use Rattle.compiling.proofs.Fines.{Fines}
-use Rattle.compiling.specs.Code.{Codes, State, state, code, exec, execs, Safe, Grants, takes, rest_of, op_node}
+use Rattle.compiling.specs.Code.{Codes, State, state, code, exec, execs, Safe, takes, rest_of, op_node}
 use Rattle.compiling.specs.Tasks.{ops_of, pending, cost, load, Fine, AllFine, listed, expand, advance, Ready}
 use Rattle.compiling.specs.Tasks.{Going}
-use Rattle.matcher.specs.Nodes.{Node, place, put}
+use Rattle.matcher.specs.Nodes.{Node, place}
 use Rattle.compiling.specs.declared.tasks.Op.{Op}
 use Rattle.compiling.specs.declared.tasks.Task.{Task}
 use Rattle.compiling.specs.declared.tasks.Task.TheVariants.{Ty, Basic, Alternatives, Elements, Step}
 use Rattle.compiling.proofs.Codes.{code_some, basic_some}
-use Rattle.compiling.proofs.Opens.{Opens, opens}
+use Rattle.compiling.proofs.Opens.{opens}
 
 module _ (rows : List Row) (w : ℕ → Bool) where
   abbrev C : Codes

@@ -1,5 +1,5 @@
 -- Compiling a type takes no more steps than its weight. Assumes nothing.
-use Rattle.std.proofs.Common.{ℕ, zero, suc, ◌+◌, ◌-◌, ◌<◌, ◌≤◌, Bool, true, false, cond, ◌&&◌, List, [], ◌∷◌, ◌++◌, length, Some, None, Option, ap, arith, length-append}
+use Rattle.std.proofs.Common.{ℕ, zero, suc, ◌+◌, ◌<◌, ◌≤◌, Bool, true, false, cond, ◌&&◌, List, [], ◌∷◌, ◌++◌, length, Some, None, Option, ap, arith, length-append}
 use Rattle.matcher.specs.declared.kind.Kind.TheVariants.{IsTupleOf, IsTupleElems, IsTupleElems1, IsTupleElems2, IsAnyOfTwo}
 use Rattle.membership.specs.Rows.{Alt, any, plain, iter, callable, kind, list, tuple, tuple_of, dict, custom, set_of, Row, row, parts, total, weight_alts, one_less}
 use Rattle.membership.specs.Readings.{just_any, plain_of}

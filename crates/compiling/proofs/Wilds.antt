@@ -1,11 +1,11 @@
 -- Wildcards, and the answer of a store that can write. Assumes nothing.
-use Rattle.std.proofs.Common.{◌≡◌, ℕ, zero, suc, ◌+◌, ◌<◌, ◌≤◌, Bool, true, false, cond, ◌&&◌, ◌||◌, ltb, List, [], ◌∷◌, length, get_or, drop, Some, None, Ok, Err, Result, sym, refl, ap, ◌∙◌, subst, arith}
+use Rattle.std.proofs.Common.{◌≡◌, ℕ, ◌+◌, ◌<◌, ◌≤◌, Bool, true, false, cond, ◌&&◌, ◌||◌, ltb, List, length, get_or, drop, Ok, Err, Result, sym, refl, ap, ◌∙◌, arith}
 use Rattle.std.proofs.lemmas.List.{drop_more, drop_all, get_or_past}
 use Rattle.std.proofs.lemmas.Bool.{ltb-false, or_right}
 use Rattle.matcher.specs.declared.kind.Kind.{Kind}
 use Rattle.values.specs.declared.refusal.Refusal.{Refusal}
 use Rattle.values.specs.declared.refusal.Refusal.TheVariants.{NoNode, NoRoom}
-use Rattle.matcher.specs.Nodes.{Node, no_node, node_at_lem, node_says, allocated, settled, place, roomy, fault}
+use Rattle.matcher.specs.Nodes.{Node, no_node, node_at_lem, node_says, allocated, settled, place, roomy}
 use Rattle.compiling.specs.Code.{Can}
 use Rattle.compiling.specs.Written.{is_any_kind_lem, wildcard, every_wildcard, some_wildcard}
 

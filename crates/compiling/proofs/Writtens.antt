@@ -1,12 +1,12 @@
 -- A type's steps write the type. Assumes nothing.
-use Rattle.std.proofs.Common.{◌≡◌, ℕ, zero, suc, ◌+◌, ◌<◌, ◌≤◌, Bool, true, false, cond, ◌&&◌, eqb, List, [], ◌∷◌, ◌++◌, map, length, Some, None, Option, sym, refl, ap, ◌∙◌, subst, ap₂, append_assoc, append-nil, arith}
+use Rattle.std.proofs.Common.{◌≡◌, ℕ, zero, suc, ◌<◌, Bool, true, false, cond, ◌&&◌, eqb, List, [], ◌∷◌, ◌++◌, map, length, Some, None, Option, sym, refl, ap, ◌∙◌, subst, append_assoc, append-nil, arith}
 use lib.ListN.{length-map}
 use Rattle.matcher.specs.Nodes.{Node, node, place, put}
 use Rattle.matcher.specs.declared.kind.Kind.TheVariants.{IsAny, IsNever, IsList, IsTupleOf, IsTupleElems, IsTupleElems0, IsTupleElems1, IsTupleElems2, IsDict, IsSet, IsAnyOfTwo, IsCallable, IsType, IsIterable, IsNone, Custom}
 use Rattle.membership.specs.Rows.{Alt, any, plain, iter, callable, kind, list, tuple, tuple_of, dict, custom, set_of, Row, row, parts}
 use Rattle.membership.specs.Readings.{just_any, plain_of}
-use Rattle.compiling.specs.Written.{Writer, writes, kids_written, over, matcher, list_of, set_of_kids, dict_of_lem, any_of_two, any_of_many, bare, id_node, value_node, item_node, beside_node, item_written, list_written, set_written, dict_written, pair_written, tuple_written, each_written, tuple_of_written, basic_written, beside_written, none_or_written, union_written, written_within, written, is_none}
-use Rattle.compiling.specs.Code.{Codes, state, chosen, takes, exec, execs, code, leaf, type_id, value_op, item_op, beside_none_op, code_item, code_list, code_set, code_dict, code_all, code_pair, code_tuple, code_each, code_tuple_of, code_basic, code_beside, code_none_or, code_two, code_alts, code_union}
+use Rattle.compiling.specs.Written.{Writer, writes, kids_written, over, matcher, list_of, set_of_kids, dict_of_lem, any_of_two, any_of_many, bare, id_node, value_node, item_node, beside_node, item_written, pair_written, tuple_written, each_written, basic_written, beside_written, none_or_written, union_written, written_within, written, is_none}
+use Rattle.compiling.specs.Code.{Codes, state, chosen, takes, exec, execs, code, leaf, type_id, value_op, item_op, beside_none_op, code_item, code_all, code_pair, code_tuple, code_each, code_basic, code_beside, code_none_or, code_alts, code_union}
 use Rattle.compiling.specs.declared.tasks.Op.{Op}
 use Rattle.compiling.specs.declared.tasks.Op.TheVariants.{Write, ListOf, SetOf, DictOf, AnyOfTwo, AnyOf}
 use Rattle.compiling.proofs.Fines.{Fines, all_under, AltsFine}

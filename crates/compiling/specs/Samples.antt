@@ -4,7 +4,7 @@ use Rattle.values.specs.Cells.{Cell}
 use Rattle.custom.specs.Worlds.{World}
 use Rattle.matcher.specs.Nodes.{Node, node}
 use Rattle.matcher.specs.declared.kind.Kind.TheVariants.{IsAny, IsNever, IsStr, IsList, IsListOf, IsTupleElems2, IsDictOf, IsAnyOfTwo, IsInt, IsNone, StarlarkTypeIdMatcher}
-use Rattle.membership.specs.Rows.{Alt, any, plain, list, tuple, dict, custom, Row, row, Grown, Outcome, start, single, plain_type, union2}
+use Rattle.membership.specs.Rows.{plain, list, tuple, dict, custom, Row, row, Grown, start, single, plain_type, union2}
 use Rattle.membership.specs.Samples.{made}
 use Rattle.membership.specs.Members.{member}
 use Rattle.compiling.specs.Written.{written}
