@@ -1,5 +1,6 @@
 // What a table of types is, and which values its types have.
 #![tactic(auto)]
+
 ghost use Rattle.membership.specs.Members.{UnionsHaveTheirSides, GrowingKeepsMembers};
 ghost use Rattle.membership.specs.Measures.{SizesAreTrue};
 ghost use Rattle.membership.specs.Samples.{MembersSamples};
