@@ -1,9 +1,9 @@
 -- Limits tested row by row. Assumes nothing.
-use Rattle.std.proofs.Common.{◌≡◌, ℕ, ◌+◌, ◌<◌, ◌≤◌, min, Bool, true, false, cond, ◌||◌, ltb, List, [], ◌∷◌, map, length, get_or, drop, sym, refl, ap, ◌∙◌, ap₂, arith, le-ltb, lt-ltb}
+use Rattle.std.proofs.Common.{◌≡◌, ℕ, ◌+◌, ◌<◌, ◌≤◌, min, Bool, true, false, cond, ◌||◌, ltb, List, map, length, get_or, drop, sym, refl, ap, ◌∙◌, ap₂, arith}
 use Rattle.std.proofs.lemmas.List.{drop_all, length-map}
 use Rattle.std.proofs.lemmas.Bool.Decides.{nat_tests}
 use Rattle.std.specs.List.{between}
-use Rattle.membership.specs.Rows.{Alt, Row, any_of, places, all_places, elements, too_deep, too_wide, too_heavy, verdict, crowded}
+use Rattle.membership.specs.Rows.{any_of, places, all_places, elements, too_deep, too_wide, too_heavy, verdict, crowded}
 use Rattle.typing.specs.View.{alt, alts, table, row_of}
 use Rattle.typing.specs.declared.basic.TyBasic.{TyBasic}
 use Rattle.typing.specs.declared.rows.Row.{Row as CodeRow}

@@ -1,5 +1,5 @@
 -- A table that grew, judged: kept, or cut back to what stood. Assumes nothing.
-use Rattle.std.proofs.Common.{◌≡◌, ℕ, zero, suc, ◌+◌, ◌<◌, ◌≤◌, Bool, true, false, cond, eqb, ltb, List, [], ◌∷◌, length, take, Ok, Err, vec_items, vec_len, vec_capacity, sym, refl, ap, ◌∙◌, subst, ap₂, arith}
+use Rattle.std.proofs.Common.{◌≡◌, ℕ, ◌≤◌, cond, eqb, ltb, List, length, take, Ok, Err, vec_items, vec_len, vec_capacity, sym, refl, ap, ◌∙◌, subst, ap₂, arith}
 use Rattle.std.proofs.lemmas.Bool.{ltb-false, or_parts}
 use Rattle.values.specs.Refusals.{number}
 use Rattle.values.specs.declared.refusal.Refusal.{Refusal}
@@ -11,7 +11,7 @@ use Rattle.typing.specs.Making.{Ready, Done}
 use Rattle.typing.specs.declared.basic.TyBasic.{TyBasic}
 use Rattle.typing.specs.declared.rows.Row.{Row as CodeRow}
 use Rattle.typing.proofs.Stores.{grew_here}
-use Rattle.typing.proofs.Joining.{Alls, Rows, table_of, table_length}
+use Rattle.typing.proofs.Joining.{Alls, Rows, table_of}
 
 pub few_rows : (t : List Row) → Sound t → length t ≤ 1024
 few_rows t s = ltb-false 1024 (length t) (or_parts (ltb 1024 (length t)) (ltb 8192 (all_places t)) (limits_of t s.limited).room).0

@@ -1,5 +1,5 @@
 -- The places of a join's parts are within those of the join. Assumes nothing.
-use Rattle.std.proofs.Common.{◌≡◌, ℕ, ◌+◌, ◌<◌, ◌≤◌, List, length, sym, refl, ap, ◌∙◌, subst, ap₂, arith}
+use Rattle.std.proofs.Common.{◌≡◌, ℕ, ◌+◌, ◌<◌, ◌≤◌, List, length, sym, subst, arith}
 use Rattle.membership.specs.Rows.{Row, row, Inner, inner, no_inner, Kept, Keeps}
 use Rattle.membership.specs.Measures.{cost, costs}
 use Rattle.membership.proofs.Costs.{cost_kept, side_costs, some_alternative}

@@ -3,11 +3,11 @@ use Rattle.std.proofs.Common.{◌≡◌, ℕ, ◌+◌, ◌<◌, ◌≤◌, true,
 use Rattle.std.proofs.lemmas.List.{length-map}
 use Rattle.std.specs.List.{between}
 use Rattle.std.specs.declared.alloc.Global.{Global}
-use Rattle.membership.specs.Rows.{Alt, Row, row, never, Inner, inner, no_inner, put_settled_lem, below, stands, Grown, grown, intern, join, Joined, Keeps, Kept, each}
+use Rattle.membership.specs.Rows.{Alt, Row, row, Inner, inner, no_inner, put_settled_lem, below, Grown, grown, intern, Joined, Keeps, Kept, each}
 use Rattle.membership.proofs.Stands.{Under, put_settled_below, below_up}
 use Rattle.membership.proofs.Joins.{keeps_row, keeps_length, keeps_trans, joined_rows}
-use Rattle.membership.proofs.Kepts.{row_under, Fine, join_fine}
-use Rattle.typing.specs.View.{alt, alts, pooled, table, row_of, placed, Laid, Grew, inner_of}
+use Rattle.membership.proofs.Kepts.{row_under, join_fine}
+use Rattle.typing.specs.View.{alt, alts, pooled, table, row_of, placed, Laid, Grew}
 use Rattle.typing.specs.Rooms.{Places, places, Room, Taken}
 use Rattle.typing.specs.declared.basic.TyBasic.{TyBasic}
 use Rattle.typing.specs.declared.rows.Row.{Row as CodeRow}

@@ -1,7 +1,7 @@
 -- An alternative alone, before it is judged. Assumes nothing.
-use Rattle.std.proofs.Common.{◌≡◌, ℕ, ◌+◌, ◌<◌, ◌≤◌, Bool, true, false, cond, ◌&&◌, List, [], ◌∷◌, length, vec_items, vec_len, vec_capacity, sym, refl, ap, ◌∙◌, subst, arith}
+use Rattle.std.proofs.Common.{◌≡◌, ℕ, ◌+◌, ◌<◌, ◌≤◌, true, false, List, [], ◌∷◌, length, vec_items, vec_len, vec_capacity, sym, refl, ap, ◌∙◌, subst, arith}
 use Rattle.std.proofs.lemmas.Bool.{and_from}
-use Rattle.membership.specs.Rows.{Alt, Row, parts, all_below_lem, below, Grown, grown, intern, single, judged, refused, Kept, plainly, each}
+use Rattle.membership.specs.Rows.{Row, parts, all_below_lem, below, Grown, grown, intern, single, judged, refused, Kept, plainly, each}
 use Rattle.membership.proofs.Kepts.{intern_fine, alone_formed}
 use Rattle.membership.proofs.Laws.{kept_of}
 use Rattle.typing.specs.View.{alt, alts, pooled}

@@ -1,5 +1,5 @@
 -- A union before it is judged. Assumes nothing.
-use Rattle.std.proofs.Common.{◌≡◌, ℕ, ◌+◌, ◌<◌, ◌≤◌, List, length, vec_items, vec_len, sym, refl, ap, ◌∙◌, arith}
+use Rattle.std.proofs.Common.{◌≡◌, ℕ, ◌+◌, ◌<◌, ◌≤◌, List, length, vec_len, sym, refl, ap, arith}
 use Rattle.std.proofs.lemmas.Bool.{lt-ltb, le-ltb, ltb-false}
 use Rattle.membership.specs.Rows.{Row, row, never, too_heavy, grown, judged, refused, union2, Kept, Sound, Joined}
 use Rattle.membership.specs.Measures.{cost}

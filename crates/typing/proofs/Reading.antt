@@ -1,12 +1,12 @@
 -- What is read of a table of types. Assumes nothing.
-use Rattle.std.proofs.Common.{◌≡◌, ℕ, zero, suc, ◌+◌, ◌<◌, ◌≤◌, Bool, true, false, cond, ltb, List, [], ◌∷◌, length, get_or, Some, None, Ok, Err, vec_items, vec_len, vec_capacity, Option, Result, sym, refl, ap, ◌∙◌, subst, arith}
+use Rattle.std.proofs.Common.{◌≡◌, ℕ, zero, suc, ◌<◌, ◌≤◌, true, false, List, [], ◌∷◌, length, get_or, Some, None, Ok, Err, vec_items, vec_len, vec_capacity, Result, sym, refl, ap, ◌∙◌, arith}
 use Rattle.std.proofs.lemmas.List.{length-map, get_or-map, get_or_default}
 use Rattle.std.proofs.lemmas.Bool.{lt-ltb, le-ltb}
 use Rattle.std.specs.List.{slice_get}
 use Rattle.values.specs.declared.refusal.Refusal.{Refusal}
 use Rattle.values.specs.declared.refusal.Refusal.TheVariants.{NoType}
 use Rattle.membership.specs.Rows.{Alt, any, Row, row, never, is_any, each, Sound, grown, granted, Outcome, union2}
-use Rattle.membership.specs.Readings.{alt_at, elems, just_any, plain_alt, plain_of}
+use Rattle.membership.specs.Readings.{elems, just_any, plain_alt, plain_of}
 use Rattle.membership.specs.Measures.{depth, weight}
 use Rattle.membership.proofs.Laws.{unions}
 use Rattle.membership.proofs.Measured.{true_sizes}

@@ -1,12 +1,12 @@
 -- Rows and alternatives that are added leave those that stand. Assumes nothing.
-use Rattle.std.proofs.Common.{◌≡◌, ℕ, zero, suc, ◌+◌, ◌-◌, ◌<◌, ◌≤◌, Bool, true, false, cond, ◌&&◌, leb, List, [], ◌∷◌, ◌++◌, map, length, get_or, take, drop, Some, None, Option, sym, refl, ap, ◌∙◌, subst, ap₂, append_assoc, arith, length-append}
+use Rattle.std.proofs.Common.{◌≡◌, ℕ, ◌+◌, ◌-◌, ◌≤◌, true, leb, List, [], ◌∷◌, ◌++◌, length, take, drop, Some, None, Option, sym, refl, ap, ◌∙◌, subst, ap₂, arith, length-append}
 use Rattle.std.proofs.lemmas.List.{take-take, take-map, take_all, take_at, drop_at, length-map, length-take, map_push}
 use Rattle.std.proofs.lemmas.Slice.{between_is}
 use Rattle.std.proofs.lemmas.Bool.{and_parts, and_from, leb-true, le-leb}
 use Rattle.std.specs.List.{between}
-use Rattle.membership.specs.Rows.{Alt, Row, each, find, intern, intern_by, made_row, places, all_places, Grown, grown, Keeps}
+use Rattle.membership.specs.Rows.{Alt, Row, each, find, intern, intern_by, made_row, places, all_places, grown, Keeps}
 use Rattle.membership.proofs.Eachs.{each_under, each_push}
-use Rattle.typing.specs.View.{alt, alts, pooled, table, row_of, placed, Laid, Grew}
+use Rattle.typing.specs.View.{alts, pooled, table, row_of, placed, Laid, Grew}
 use Rattle.typing.specs.declared.basic.TyBasic.{TyBasic}
 use Rattle.typing.specs.declared.rows.Row.{Row as CodeRow}
 use Rattle.typing.proofs.Walks.{each_both}

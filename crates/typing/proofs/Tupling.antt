@@ -1,17 +1,16 @@
 -- A fixed tuple: its elements are added to the pool, and cut off again where no type is added. Assumes nothing.
-use Rattle.std.proofs.Common.{◌≡◌, ℕ, zero, suc, ◌+◌, ◌-◌, ◌<◌, ◌≤◌, min, max, Bool, true, false, cond, ◌&&◌, ◌||◌, eqb, ltb, leb, ◌⊎◌, List, [], ◌∷◌, ◌++◌, map, length, get_or, take, drop, Some, None, Ok, Err, vec_items, vec_len, vec_capacity, Option, Result, sym, refl, ap, ◌∙◌, subst, ap₂, inl, inr, add-zero, arith, length-append}
+use Rattle.std.proofs.Common.{◌≡◌, ℕ, zero, suc, ◌+◌, ◌-◌, ◌<◌, ◌≤◌, min, max, Bool, true, false, cond, ◌||◌, ltb, leb, ◌⊎◌, List, [], ◌∷◌, ◌++◌, length, take, drop, Some, None, Ok, Err, Option, Result, sym, refl, ap, ◌∙◌, subst, ap₂, inl, inr, add-zero, arith, length-append}
 use Rattle.std.proofs.lemmas.List.{take_all, take_at, drop_at, length-map}
-use Rattle.std.proofs.lemmas.Bool.{and_parts, and_from, or_parts, leb-true, le-leb, lt-ltb, le-ltb}
+use Rattle.std.proofs.lemmas.Bool.{and_parts, and_from, or_parts, leb-true, le-leb, lt-ltb}
 use Rattle.std.specs.List.{between}
-use Rattle.values.specs.Refusals.{number}
 use Rattle.values.specs.declared.refusal.Refusal.{Refusal}
 use Rattle.values.specs.declared.refusal.Refusal.TheVariants.{TooDeep, TooWide}
-use Rattle.membership.specs.Rows.{Alt, tuple, Row, row, never, elements, made_row, parts, all_below_lem, deepest, places, all_places, any_of, too_long, too_deep, too_wide, find, intern, intern_by, Grown, grown, judged, verdict, single, Outcome, granted, refused, each, Sound}
+use Rattle.membership.specs.Rows.{Alt, tuple, Row, row, never, elements, made_row, parts, all_below_lem, deepest, all_places, any_of, too_long, too_deep, too_wide, find, intern, intern_by, Grown, grown, judged, verdict, single, Outcome, granted, refused, each, Sound}
 use Rattle.membership.proofs.Eachs.{each_under}
 use Rattle.membership.proofs.Kepts.{find_row_lem}
 use Rattle.membership.proofs.Laws.{judged_granted}
 use Rattle.membership.proofs.Measured.{limits_of, none_at_lem}
-use Rattle.typing.specs.View.{alt, alts, pooled, table, row_of, placed, Laid, Grew}
+use Rattle.typing.specs.View.{alt, alts, pooled, table, row_of, Laid}
 use Rattle.typing.specs.Making.{Ready, Done}
 use Rattle.typing.specs.Outcomes.{Answered}
 use Rattle.typing.specs.declared.basic.TyBasic.{TyBasic}

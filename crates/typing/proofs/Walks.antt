@@ -1,15 +1,15 @@
 -- Lists read place by place. Assumes nothing.
-use Rattle.std.proofs.Common.{◌≡◌, ℕ, zero, suc, ◌+◌, ◌-◌, ◌<◌, ◌≤◌, max, Bool, true, false, cond, ◌&&◌, leb, List, [], ◌∷◌, ◌++◌, map, length, get_or, take, drop, Some, None, Option, Ordering, Less, Equal, Greater, sym, refl, ap, ◌∙◌, subst, arith}
-use Rattle.std.proofs.lemmas.List.{get_or_default, drop_more, drop_all, take_more, map-append, take-append-drop, append_assoc}
+use Rattle.std.proofs.Common.{◌≡◌, ℕ, zero, suc, ◌+◌, ◌-◌, ◌<◌, ◌≤◌, max, Bool, true, false, cond, ◌&&◌, leb, List, [], ◌∷◌, ◌++◌, length, get_or, take, drop, Some, None, Ordering, Less, Equal, Greater, sym, refl, ap, ◌∙◌, subst, arith}
+use Rattle.std.proofs.lemmas.List.{get_or_default, drop_more, take_more, map-append, take-append-drop, append_assoc}
 use Rattle.std.proofs.lemmas.Option.{slice_get_read, slice_get_past}
 use Rattle.std.proofs.lemmas.List.Edits.{length-between, get_or-between}
 use Rattle.std.proofs.lemmas.Bool.Decides.{nat_tests}
 use Rattle.std.proofs.lemmas.Bool.{and_parts, and_from, leb-true}
 use Rattle.std.specs.List.{between, insert, slice_get}
 use Rattle.std.specs.Ordering.{is_eq}
-use Rattle.membership.specs.Rows.{Alt, Row, numbers, parts, elements, same_alts, compared, find, put, put_by, put_settled_lem, settle, Inner, inner, with_part, each}
-use Rattle.membership.proofs.Eachs.{each_at, each_push}
-use Rattle.typing.specs.View.{alt, alts, pooled, table, row_of, placed}
+use Rattle.membership.specs.Rows.{Alt, numbers, parts, elements, same_alts, compared, find, put, put_by, put_settled_lem, settle, Inner, inner, with_part, each}
+use Rattle.membership.proofs.Eachs.{each_at}
+use Rattle.typing.specs.View.{alt, alts, pooled, table}
 use Rattle.typing.specs.declared.basic.TyBasic.{TyBasic}
 use Rattle.typing.specs.declared.basic.TyBasic.TheVariants as basic
 use Rattle.typing.specs.declared.basic.TyTuple.TheVariants.{Elems, Of}

@@ -1,6 +1,6 @@
 -- What holds of a table in reserved memory between the calls. Assumes nothing.
-use Rattle.std.specs.Prelude.{◌≡◌, ℕ, ◌+◌, ◌≤◌, List, length, Result}
-use Rattle.membership.specs.Rows.{Row, all_places, Sound, Outcome}
+use Rattle.std.specs.Prelude.{ℕ, ◌≤◌, List, length, Result}
+use Rattle.membership.specs.Rows.{all_places, Sound, Outcome}
 use Rattle.typing.specs.View.{table, Laid, Grew}
 use Rattle.typing.specs.Outcomes.{Answered}
 use Rattle.values.specs.declared.refusal.Refusal.{Refusal}

@@ -3,7 +3,7 @@ use Rattle.std.specs.Prelude.{◌≡◌, ℕ, ◌<◌, ◌≤◌, true, cond, Li
 use Rattle.values.specs.Refusals.{number}
 use Rattle.values.specs.declared.refusal.Refusal.{Refusal}
 use Rattle.values.specs.declared.refusal.Refusal.TheVariants.{NoType}
-use Rattle.membership.specs.Rows.{Alt, any, Row, row, Grown, grown, Outcome, granted, refused}
+use Rattle.membership.specs.Rows.{Alt, any, Row, row, grown, Outcome, granted, refused}
 use Rattle.membership.specs.Members.{UnionMembers}
 use Rattle.typing.specs.View.{alt, pooled}
 use Rattle.typing.specs.declared.basic.TyBasic.{TyBasic}

@@ -1,11 +1,10 @@
 -- The alternatives and the rows that the code holds, as plain lists. Assumes nothing.
-use Rattle.std.specs.Prelude.{◌≡◌, ℕ, ◌+◌, ◌≤◌, Bool, true, false, ◌&&◌, List, map, length, take, nat_le}
+use Rattle.std.specs.Prelude.{◌≡◌, ℕ, ◌+◌, ◌≤◌, Bool, true, ◌&&◌, List, map, length, take, nat_le}
 use Rattle.std.specs.List.{between}
 use Rattle.membership.specs.Rows.{Alt, any, plain, iter, callable, kind, list, tuple, tuple_of, dict, custom, set_of, each}
 use Rattle.membership.specs.Rows as theory
 use Rattle.typing.specs.declared.basic.TyBasic.{TyBasic}
 use Rattle.typing.specs.declared.basic.TyBasic.TheVariants as basic
-use Rattle.typing.specs.declared.basic.TyTuple.{TyTuple}
 use Rattle.typing.specs.declared.basic.TyTuple.TheVariants.{Elems, Of}
 use Rattle.typing.specs.declared.basic.Inner.{Inner}
 use Rattle.typing.specs.declared.rows.Row.{Row}

@@ -1,4 +1,5 @@
 #![tactic(auto)]
+
 pub mod basic;
 pub mod calls;
 pub mod limits;

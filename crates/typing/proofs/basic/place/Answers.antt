@@ -1,6 +1,6 @@
-use Rattle.std.proofs.Common.{List, [], ◌∷◌, ◌++◌, length, get_or, take, drop, sym, ap, ◌∙◌, arith}
+use Rattle.std.proofs.Common.{List, ◌++◌, length, get_or, take, sym, ap, ◌∙◌, arith}
 use Rattle.std.proofs.lemmas.List.{drop_all, take_all}
-use Rattle.membership.specs.Rows.{Alt, put}
+use Rattle.membership.specs.Rows.{Alt}
 use Rattle.typing.specs.View.{alt, alts, pooled}
 use Rattle.typing.specs.declared.basic.TyBasic.TheVariants.{Any}
 use Rattle.typing.proofs.Walks.{put_less, put_equal, put_more, alts_split, read_plain, pooled_at}

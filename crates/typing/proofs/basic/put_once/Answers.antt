@@ -1,4 +1,4 @@
-use Rattle.std.proofs.Common.{◌≡◌, ◌+◌, true, cond, List, ◌∷◌, ◌++◌, length, take, drop, is_ok, vec_items, vec_len, sym, ap, ◌∙◌, subst, arith}
+use Rattle.std.proofs.Common.{◌≡◌, ◌+◌, true, List, ◌∷◌, length, take, drop, is_ok, vec_items, vec_len, sym, ap, ◌∙◌, subst, arith}
 use mathlib.Core.List.{map-append}
 use Rattle.std.proofs.lemmas.Bool.{cond-true}
 use Rattle.std.specs.List.{insert}
@@ -18,7 +18,7 @@ returns-in-Err c =
     let ok : is_ok r ≡ true = c.insert.ensures.succeeds c.requires.room in
     let items : vec_items c.insert.new.self ≡ insert ys i x = c.insert.ensures.items ∙ cond-true (is_ok r) (insert ys i x) ys ok in
     let len = c.insert.ensures.len ∙ cond-true (is_ok r) (vec_len c.args.row.now + 1) (vec_len c.args.row.now) ok in
-    let p = rw c.as-slice.ensures.value at c.in-Err.ensures in
+    let p = rw c.as_slice.ensures.value at c.in-Err.ensures in
     record {
       put = ap (alts pool) items ∙ map-append (alt pool) (take i ys) (x ∷ drop i ys) ∙ sym p.1;
       room = omega (arith, len);

@@ -1,12 +1,12 @@
-use Rattle.std.proofs.Common.{◌≡◌, length, get_or, drop, vec_items, vec_len, sym, ap, ◌∙◌, arith}
+use Rattle.std.proofs.Common.{length, get_or, vec_items, ◌∙◌, arith}
 use Rattle.std.proofs.lemmas.List.{drop_all}
 use Rattle.typing.specs.View.{alt, alts, inner_of, pooled}
 use Rattle.typing.specs.declared.basic.TyBasic.TheVariants.{Any}
 use Rattle.typing.proofs.Walks.{put_settled_step, read_plain, pooled_at}
 use Rattle.typing.proofs.basic.put_settled.Goals as goal
 
-pub put-once-requires : goal.put-once-requires
-put-once-requires c =
+pub put_once-requires : goal.put_once-requires
+put_once-requires c =
     let xs = c.args.side.now in
     let i = c.loop-x.x-index in
     let n = length c.args.pool.now in
@@ -21,10 +21,10 @@ loop-x-preserved c =
     let pool = c.args.pool.now in
     let xs = c.args.side.now in
     let i = c.loop-x.x-index in (
-      put_settled_step pool (inner_of c.args.joined) (alts pool (vec_items c.loop-x.row)) (alts pool (vec_items c.put-once.new.row)) xs i (get_or xs i Any) (alt pool c.settled.result) c.loop-x-test.true (read_plain xs i Any c.loop-x-test.true) (c.settled.ensures.is pool) c.put-once.ensures.put ∙ c.loop-x.invariant.0,
-      omega (arith, c.put-once.ensures.room, c.loop-x.invariant.1),
-      c.put-once.ensures.reserved ∙ c.loop-x.invariant.2,
-      c.put-once.ensures.row,
+      put_settled_step pool (inner_of c.args.joined) (alts pool (vec_items c.loop-x.row)) (alts pool (vec_items c.put_once.new.row)) xs i (get_or xs i Any) (alt pool c.settled.result) c.loop-x-test.true (read_plain xs i Any c.loop-x-test.true) (c.settled.ensures.is pool) c.put_once.ensures.put ∙ c.loop-x.invariant.0,
+      omega (arith, c.put_once.ensures.room, c.loop-x.invariant.1),
+      c.put_once.ensures.reserved ∙ c.loop-x.invariant.2,
+      c.put_once.ensures.row,
     )
 
 pub returns : goal.returns

@@ -1,8 +1,7 @@
-use Rattle.std.proofs.Common.{◌+◌, ◌<◌, false, ◌&&◌, length, get_or, drop, sym, ap, ◌∙◌, arith}
+use Rattle.std.proofs.Common.{◌<◌, length, get_or, sym, arith}
 use Rattle.std.proofs.lemmas.Bool.Decides.{nat_tests}
 use Rattle.std.proofs.lemmas.List.{drop_all}
-use Rattle.membership.specs.Rows.{same_alts}
-use Rattle.typing.specs.View.{alts, pooled}
+use Rattle.typing.specs.View.{pooled}
 use Rattle.typing.specs.declared.basic.TyBasic.TheVariants.{Any}
 use Rattle.typing.proofs.Walks.{same_more, same_length, read_plain, pooled_at}
 use Rattle.typing.proofs.basic.same.Goals as goal
@@ -22,14 +21,14 @@ compare-requires c =
       others = pooled_at (pooled n) b i (get_or b i Any) c.requires.right k (read_plain b i Any k);
     }
 
-pub returns-then-is-ne : goal.returns-then-is-ne
-returns-then-is-ne c =
+pub returns-then-is_ne : goal.returns-then-is_ne
+returns-then-is_ne c =
     let a = c.args.a.now in
     let b = c.args.b.now in
     let i = c.loop-i.i in
     let k : i < length b = omega arith in
     let s = same_more c.args.pool.now a b i (get_or a i Any) (get_or b i Any) c.loop-i-test.true k (read_plain a i Any c.loop-i-test.true) (read_plain b i Any k) in
-    grind (arith, nat_tests, s, c.compare.ensures, c.is-ne.ensures, c.if-is-ne.true, c.loop-i.invariant)
+    grind (arith, nat_tests, s, c.compare.ensures, c.is_ne.ensures, c.if-is_ne.true, c.loop-i.invariant)
 
 pub loop-i-preserved : goal.loop-i-preserved
 loop-i-preserved c =
@@ -38,7 +37,7 @@ loop-i-preserved c =
     let i = c.loop-i.i in
     let k : i < length b = omega arith in
     let s = same_more c.args.pool.now a b i (get_or a i Any) (get_or b i Any) c.loop-i-test.true k (read_plain a i Any c.loop-i-test.true) (read_plain b i Any k) in
-    grind (arith, nat_tests, s, c.compare.ensures, c.is-ne.ensures, c.if-is-ne.false, c.loop-i.invariant)
+    grind (arith, nat_tests, s, c.compare.ensures, c.is_ne.ensures, c.if-is_ne.false, c.loop-i.invariant)
 
 pub returns : goal.returns
 returns c =

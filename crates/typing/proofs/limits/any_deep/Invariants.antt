@@ -1,6 +1,6 @@
-use Rattle.std.proofs.Common.{◌≡◌, ◌+◌, ◌≤◌, min, drop}
-use Rattle.membership.specs.Rows.{any_of, too_long, too_deep, too_wide, too_heavy, places, all_places}
-use Rattle.typing.specs.View.{alts, table}
+use Rattle.std.proofs.Common.{◌≡◌, drop}
+use Rattle.membership.specs.Rows.{any_of, too_deep}
+use Rattle.typing.specs.View.{table}
 use Rattle.typing.proofs.limits.any_deep.Given as goal
 
 abbrev pub invariant-loop-row : goal.invariant-loop-row

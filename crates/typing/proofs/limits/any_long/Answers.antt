@@ -1,21 +1,17 @@
-use Rattle.std.proofs.Common.{◌≡◌, true, ltb, List, length, get_or, vec_items, sym, refl, ap, ◌∙◌, arith, le-ltb, lt-ltb}
-use Rattle.membership.specs.Rows.{any_of, too_long, too_deep, too_wide, too_heavy, elements}
-use Rattle.typing.specs.View.{alt, alts, table, row_of}
-use Rattle.std.specs.List.{between}
-use Rattle.membership.specs.Rows.{each}
-use Rattle.typing.specs.View.{pooled, placed}
-use Rattle.typing.specs.declared.basic.TyBasic.{TyBasic}
+use Rattle.std.proofs.Common.{ltb, length, get_or, sym, ap, ◌∙◌}
+use Rattle.membership.specs.Rows.{too_long}
+use Rattle.typing.specs.View.{alt}
+use Rattle.typing.specs.View.{pooled}
 use Rattle.typing.specs.declared.basic.TyBasic.TheVariants.{Any}
-use Rattle.typing.proofs.Walks.{read_plain, pooled_at, each_between}
-use Rattle.typing.proofs.Sizes.{no_row}
-use Rattle.typing.proofs.Bounds.{any_hit, any_miss, any_end, places_step, places_end, all_places_step, all_places_end}
+use Rattle.typing.proofs.Walks.{read_plain, pooled_at}
+use Rattle.typing.proofs.Bounds.{any_hit, any_miss, any_end}
 use Rattle.typing.proofs.limits.any_long.Goals as goal
 
-pub returns-then-is-long : goal.returns-then-is-long
-returns-then-is-long c = any_hit (alt c.args.pool.now) too_long c.args.alternatives.now c.loop-x.x-index (get_or c.args.alternatives.now c.loop-x.x-index Any) _ c.loop-x-test.true (read_plain c.args.alternatives.now c.loop-x.x-index Any c.loop-x-test.true) (sym (c.is-long.ensures ∙ ap (ltb 64) c.elements.ensures) ∙ c.if-is-long.true) c.loop-x.invariant
+pub returns-then-is_long : goal.returns-then-is_long
+returns-then-is_long c = any_hit (alt c.args.pool.now) too_long c.args.alternatives.now c.loop-x.x-index (get_or c.args.alternatives.now c.loop-x.x-index Any) _ c.loop-x-test.true (read_plain c.args.alternatives.now c.loop-x.x-index Any c.loop-x-test.true) (sym (c.is_long.ensures ∙ ap (ltb 64) c.elements.ensures) ∙ c.if-is_long.true) c.loop-x.invariant
 
 pub loop-x-preserved : goal.loop-x-preserved
-loop-x-preserved c = any_miss (alt c.args.pool.now) too_long c.args.alternatives.now c.loop-x.x-index (get_or c.args.alternatives.now c.loop-x.x-index Any) _ c.loop-x-test.true (read_plain c.args.alternatives.now c.loop-x.x-index Any c.loop-x-test.true) (sym (c.is-long.ensures ∙ ap (ltb 64) c.elements.ensures) ∙ c.if-is-long.false) c.loop-x.invariant
+loop-x-preserved c = any_miss (alt c.args.pool.now) too_long c.args.alternatives.now c.loop-x.x-index (get_or c.args.alternatives.now c.loop-x.x-index Any) _ c.loop-x-test.true (read_plain c.args.alternatives.now c.loop-x.x-index Any c.loop-x-test.true) (sym (c.is_long.ensures ∙ ap (ltb 64) c.elements.ensures) ∙ c.if-is_long.false) c.loop-x.invariant
 
 pub returns : goal.returns
 returns c = any_end (alt c.args.pool.now) too_long c.args.alternatives.now c.loop-x.x-index _ c.loop-x-test.false c.loop-x.invariant

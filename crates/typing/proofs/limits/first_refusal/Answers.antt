@@ -2,8 +2,8 @@ use Rattle.std.proofs.Common.{sym, ◌∙◌}
 use Rattle.typing.proofs.Bounds.{crowd_is, crowd_past, crowd_none}
 use Rattle.typing.proofs.limits.first_refusal.Goals as goal
 
-pub returns-then-is-crowded : goal.returns-then-is-crowded
-returns-then-is-crowded c = crowd_past c.args.pool.now c.args.all.now c.args.rows.now c.if-any-deep.ensures c.if-any-wide.ensures c.if-any-heavy.ensures (sym (crowd_is c.args.pool.now c.args.all.now c.args.rows.now c.if-any-deep.ensures c.if-any-wide.ensures c.if-any-heavy.ensures c.table-places.result c.table-places.ensures) ∙ sym c.is-crowded.ensures ∙ c.if-is-crowded.true)
+pub returns-then-is_crowded : goal.returns-then-is_crowded
+returns-then-is_crowded c = crowd_past c.args.pool.now c.args.all.now c.args.rows.now c.if-any_deep.ensures c.if-any_wide.ensures c.if-any_heavy.ensures (sym (crowd_is c.args.pool.now c.args.all.now c.args.rows.now c.if-any_deep.ensures c.if-any_wide.ensures c.if-any_heavy.ensures c.table_places.result c.table_places.ensures) ∙ sym c.is_crowded.ensures ∙ c.if-is_crowded.true)
 
 pub returns : goal.returns
-returns c = crowd_none c.args.pool.now c.args.all.now c.args.rows.now c.if-any-deep.ensures c.if-any-wide.ensures c.if-any-heavy.ensures (sym (crowd_is c.args.pool.now c.args.all.now c.args.rows.now c.if-any-deep.ensures c.if-any-wide.ensures c.if-any-heavy.ensures c.table-places.result c.table-places.ensures) ∙ sym c.is-crowded.ensures ∙ c.if-is-crowded.false)
+returns c = crowd_none c.args.pool.now c.args.all.now c.args.rows.now c.if-any_deep.ensures c.if-any_wide.ensures c.if-any_heavy.ensures (sym (crowd_is c.args.pool.now c.args.all.now c.args.rows.now c.if-any_deep.ensures c.if-any_wide.ensures c.if-any_heavy.ensures c.table_places.result c.table_places.ensures) ∙ sym c.is_crowded.ensures ∙ c.if-is_crowded.false)

@@ -1,4 +1,4 @@
 use Rattle.typing.proofs.rows.+join_rows.Given as goal
 
-abbrev pub decreases-join-rows : goal.decreases-join-rows
-decreases-join-rows l = l.a
+abbrev pub decreases-join_rows : goal.decreases-join_rows
+decreases-join_rows l = l.a

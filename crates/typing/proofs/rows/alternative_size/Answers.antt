@@ -9,14 +9,14 @@ use Rattle.typing.proofs.rows.alternative_size.Goals as goal
 within : (c : goal.In-Some) → c.in-Some.p < length c.args.rows.now
 within c = (below_here (length c.args.rows.now) (parts (alt c.args.pool.now c.args.x)) c.loop-p.i c.in-Some.p (sym c.part.ensures ∙ c.in-Some.is) c.loop-p.invariant.4).0
 
-pub offset-bounds-rows-p : goal.offset-bounds-rows-p
-offset-bounds-rows-p c = let h = within c in search rules
+pub offset_bounds-rows-p : goal.offset_bounds-rows-p
+offset_bounds-rows-p c = let h = within c in search rules
 
 pub bounds-rows-p : goal.bounds-rows-p
 bounds-rows-p c = within c
 
-pub overflow-add-i : goal.overflow-add-i
-overflow-add-i c =
+pub overflow_add-i : goal.overflow_add-i
+overflow_add-i c =
     let pool = c.args.pool.now in
     let w = within_at_some (parts (alt pool c.args.x)) c.loop-p.i c.in-Some.p (sym c.part.ensures ∙ c.in-Some.is) in
     let n = parts_few pool c.args.x c.requires.new in
@@ -36,14 +36,14 @@ loop-p-preserved c =
     let b = below_here (length rows) ps i p at c.loop-p.invariant.4 in (
       omega (arith, within_at_some ps i p at),
       deepest_step c.args.pool.now c.args.all.now rows ps i p at b.0 c.loop-p.depth c.larger-depth.result _ c.larger-depth.ensures c.loop-p.invariant.1,
-      total_step c.args.pool.now c.args.all.now rows ps i p at b.0 c.loop-p.weight c.held-sum-weight.result _ c.held-sum-weight.ensures c.loop-p.invariant.2,
-      omega (arith, c.held-sum-weight.ensures),
+      total_step c.args.pool.now c.args.all.now rows ps i p at b.0 c.loop-p.weight c.held_sum-weight.result _ c.held_sum-weight.ensures c.loop-p.invariant.2,
+      omega (arith, c.held_sum-weight.ensures),
       b.1,
     )
 
 pub returns : goal.returns
 returns c =
-    let none = sym c.part.ensures ∙ c.in-default.is in
+    let none = sym c.part.ensures ∙ c.in_default.is in
     let d = deepest_end (table c.args.pool.now c.args.all.now c.args.rows.now) (parts (alt c.args.pool.now c.args.x)) c.loop-p.i c.loop-p.depth _ none c.loop-p.invariant.1 in
     let w = total_end (table c.args.pool.now c.args.all.now c.args.rows.now) (parts (alt c.args.pool.now c.args.x)) c.loop-p.i c.loop-p.weight _ none c.loop-p.invariant.3 c.loop-p.invariant.2 in
-    record { depth = omega (arith, d, c.held-sum.ensures); weight = w }
+    record { depth = omega (arith, d, c.held_sum.ensures); weight = w }

@@ -1,4 +1,4 @@
-use Rattle.std.proofs.Common.{◌≡◌, ◌+◌, ◌-◌, ◌≤◌, min, max, true, length, drop}
+use Rattle.std.proofs.Common.{◌≡◌, ◌+◌, ◌≤◌, min, max, true, length, drop}
 use Rattle.membership.specs.Rows.{depth_alts, weight_alts, below}
 use Rattle.typing.specs.View.{alts, table}
 use Rattle.typing.proofs.rows.row_size.Given as goal

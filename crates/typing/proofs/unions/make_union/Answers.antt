@@ -1,13 +1,13 @@
-use Rattle.std.proofs.Common.{◌≡◌, ℕ, ◌<◌, ◌≤◌, List, length, vec_items, vec_len, sym, refl, ap, ◌∙◌, ap₂, arith}
+use Rattle.std.proofs.Common.{◌<◌, List, vec_len, sym, ap, ◌∙◌, ap₂, arith}
 use Rattle.values.specs.declared.refusal.Refusal.TheVariants.{NoType}
-use Rattle.membership.specs.Rows.{verdict, all_below_lem, parts, single, union2}
+use Rattle.membership.specs.Rows.{verdict, union2}
 use Rattle.membership.proofs.Laws.{kept_of}
-use Rattle.typing.specs.View.{alt, table}
+use Rattle.typing.specs.View.{table}
 use Rattle.typing.specs.Outcomes.{first_number}
 use Rattle.typing.specs.declared.basic.TyBasic.{TyBasic}
 use Rattle.typing.specs.declared.rows.Row.{Row as CodeRow}
 use Rattle.typing.proofs.Joining.{table_of}
-use Rattle.typing.proofs.Cutting.{refused_at_once, kept, cut, v_back}
+use Rattle.typing.proofs.Cutting.{refused_at_once, kept, cut}
 use Rattle.typing.proofs.Making.{union_missing, union_missing_2, union_room, union_outcome, union_kept}
 use Rattle.typing.proofs.unions.make_union.Goals as goal
 
@@ -28,8 +28,8 @@ returns-then-b-stood c =
     let al : c.args.a < vec_len w = omega (arith, c.len-stood.ensures, c.if-a-stood.false) in
     refused_at_once (union2 (table_of pool v w) c.args.a c.args.b) pool v w s c.requires NoType (union_missing_2 pool v w s c.args.a c.args.b c.requires al (omega (arith, c.len-stood.ensures, c.if-b-stood.true)))
 
-pub join-rows-n-requires : goal.join-rows-n-requires
-join-rows-n-requires c =
+pub join_rows-n-requires : goal.join_rows-n-requires
+join_rows-n-requires c =
     let pool = c.args.pool.now in
     let v = c.args.all.now in
     let w = c.args.rows.now in
@@ -39,8 +39,8 @@ join-rows-n-requires c =
     record {
       laid = c.requires.laid;
       kept = kept_of (table_of pool v w) c.requires.sound;
-      a-within = al;
-      b-within = bl;
+      a_within = al;
+      b_within = bl;
       room = union_room pool v w s c.args.a c.args.b c.requires al bl;
     }
 
@@ -52,13 +52,13 @@ returns-in-None c =
     let s = c.args.scratch.now in
     let al : c.args.a < vec_len w = omega (arith, c.len-stood.ensures, c.if-a-stood.false) in
     let bl : c.args.b < vec_len w = omega (arith, c.len-stood.ensures, c.if-b-stood.false) in
-    let v' = c.join-rows-n.new.all in
-    let w' = c.join-rows-n.new.rows in
-    let s' = c.join-rows-n.new.scratch in
-    let n = c.join-rows-n.result in
-    let outcome = union_outcome pool v w s c.args.a c.args.b c.requires al bl (table_of pool v' w') n c.join-rows-n.ensures.joins in
-    let e = ap first_number (sym c.in-None.is) ∙ c.first-refusal.ensures ∙ ap₂ (λ (y : List CodeRow) (z : List TyBasic). verdict (table pool z y)) c.as-slice.ensures.value c.as-slice-2.ensures.value in
-    kept (union2 (table_of pool v w) c.args.a c.args.b) pool v w s c.requires v' w' s' n c.join-rows-n.ensures.grew outcome c.join-rows-n.ensures.taken.same_rows c.join-rows-n.ensures.taken.same_alternatives c.join-rows-n.ensures.taken.same_scratch (union_kept pool v w s c.args.a c.args.b c.requires al bl (table_of pool v' w') n c.join-rows-n.ensures.joins) e
+    let v' = c.join_rows-n.new.all in
+    let w' = c.join_rows-n.new.rows in
+    let s' = c.join_rows-n.new.scratch in
+    let n = c.join_rows-n.result in
+    let outcome = union_outcome pool v w s c.args.a c.args.b c.requires al bl (table_of pool v' w') n c.join_rows-n.ensures.joins in
+    let e = ap first_number (sym c.in-None.is) ∙ c.first_refusal.ensures ∙ ap₂ (λ (y : List CodeRow) (z : List TyBasic). verdict (table pool z y)) c.as_slice.ensures.value c.as_slice-2.ensures.value in
+    kept (union2 (table_of pool v w) c.args.a c.args.b) pool v w s c.requires v' w' s' n c.join_rows-n.ensures.grew outcome c.join_rows-n.ensures.taken.same_rows c.join_rows-n.ensures.taken.same_alternatives c.join_rows-n.ensures.taken.same_scratch (union_kept pool v w s c.args.a c.args.b c.requires al bl (table_of pool v' w') n c.join_rows-n.ensures.joins) e
 
 pub returns-in-Some : goal.returns-in-Some
 returns-in-Some c =
@@ -68,11 +68,11 @@ returns-in-Some c =
     let s = c.args.scratch.now in
     let al : c.args.a < vec_len w = omega (arith, c.len-stood.ensures, c.if-a-stood.false) in
     let bl : c.args.b < vec_len w = omega (arith, c.len-stood.ensures, c.if-b-stood.false) in
-    let v' = c.join-rows-n.new.all in
-    let w' = c.join-rows-n.new.rows in
-    let s' = c.join-rows-n.new.scratch in
-    let n = c.join-rows-n.result in
-    let outcome = union_outcome pool v w s c.args.a c.args.b c.requires al bl (table_of pool v' w') n c.join-rows-n.ensures.joins in
-    let e = ap first_number (sym c.in-Some.is) ∙ c.first-refusal.ensures ∙ ap₂ (λ (y : List CodeRow) (z : List TyBasic). verdict (table pool z y)) c.as-slice.ensures.value c.as-slice-2.ensures.value in
-    cut (union2 (table_of pool v w) c.args.a c.args.b) pool v w s c.requires v' w' s' n c.join-rows-n.ensures.grew outcome c.join-rows-n.ensures.taken.same_rows c.join-rows-n.ensures.taken.same_alternatives c.join-rows-n.ensures.taken.same_scratch
+    let v' = c.join_rows-n.new.all in
+    let w' = c.join_rows-n.new.rows in
+    let s' = c.join_rows-n.new.scratch in
+    let n = c.join_rows-n.result in
+    let outcome = union_outcome pool v w s c.args.a c.args.b c.requires al bl (table_of pool v' w') n c.join_rows-n.ensures.joins in
+    let e = ap first_number (sym c.in-Some.is) ∙ c.first_refusal.ensures ∙ ap₂ (λ (y : List CodeRow) (z : List TyBasic). verdict (table pool z y)) c.as_slice.ensures.value c.as_slice-2.ensures.value in
+    cut (union2 (table_of pool v w) c.args.a c.args.b) pool v w s c.requires v' w' s' n c.join_rows-n.ensures.grew outcome c.join_rows-n.ensures.taken.same_rows c.join_rows-n.ensures.taken.same_alternatives c.join_rows-n.ensures.taken.same_scratch
     c.truncate-in-Some.new.self c.truncate.new.self c.len-stood.result c.len-held.result c.len-stood.ensures c.len-held.ensures c.truncate.ensures.items c.truncate-in-Some.ensures.items c.truncate.ensures.capacity c.truncate-in-Some.ensures.capacity c.in-Some.refusal e

@@ -19,10 +19,10 @@ loop-p-preserved c = (
 )
 
 pub returns : goal.returns
-returns c = stand_end c.args.count (parts (alt c.args.pool.now c.args.x)) c.loop-p.i _ c.loop-p.invariant.1 (sym c.part.ensures ∙ c.in-default.is)
+returns c = stand_end c.args.count (parts (alt c.args.pool.now c.args.x)) c.loop-p.i _ c.loop-p.invariant.1 (sym c.part.ensures ∙ c.in_default.is)
 
-pub overflow-add-i : goal.overflow-add-i
-overflow-add-i c =
+pub overflow_add-i : goal.overflow_add-i
+overflow_add-i c =
     let pool = c.args.pool.now in
     let w = within_at_some (parts (alt pool c.args.x)) c.loop-p.i c.in-Some.p (sym c.part.ensures ∙ c.in-Some.is) in
     let n = parts_few pool c.args.x c.requires in

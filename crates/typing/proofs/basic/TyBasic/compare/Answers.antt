@@ -5,9 +5,9 @@ use Rattle.typing.specs.View.{alt}
 use Rattle.typing.proofs.Words.{order_less, order_greater, order_more, order_longer, order_shorter, order_equal, within_at_some}
 use Rattle.typing.proofs.basic.TyBasic.compare.Goals as goal
 
-pub returns-in-default-number : goal.returns-in-default-number
-returns-in-default-number c =
-    order_longer (numbers (alt c.args.pool.now c.args.self.now)) (numbers (alt c.args.pool.now c.args.other.now)) c.loop-x.i c.in-Some.x (sym c.number.ensures ∙ c.in-Some.is) (sym c.number-in-Some.ensures ∙ c.in-default-number.is) ∙ c.loop-x.invariant.2
+pub returns-in_default-number : goal.returns-in_default-number
+returns-in_default-number c =
+    order_longer (numbers (alt c.args.pool.now c.args.self.now)) (numbers (alt c.args.pool.now c.args.other.now)) c.loop-x.i c.in-Some.x (sym c.number.ensures ∙ c.in-Some.is) (sym c.number-in-Some.ensures ∙ c.in_default-number.is) ∙ c.loop-x.invariant.2
 
 pub returns-then-x-y : goal.returns-then-x-y
 returns-then-x-y c =
@@ -30,14 +30,14 @@ loop-x-preserved c =
 
 pub returns-in-Some-number-2 : goal.returns-in-Some-number-2
 returns-in-Some-number-2 c =
-    order_shorter (numbers (alt c.args.pool.now c.args.self.now)) (numbers (alt c.args.pool.now c.args.other.now)) c.loop-x.i c.in-Some-number-2.field-0 (sym c.number.ensures ∙ c.in-default.is) (sym c.number-2.ensures ∙ c.in-Some-number-2.is) ∙ c.loop-x.invariant.2
+    order_shorter (numbers (alt c.args.pool.now c.args.self.now)) (numbers (alt c.args.pool.now c.args.other.now)) c.loop-x.i c.in-Some-number-2.field-0 (sym c.number.ensures ∙ c.in_default.is) (sym c.number-2.ensures ∙ c.in-Some-number-2.is) ∙ c.loop-x.invariant.2
 
 pub returns-in-None : goal.returns-in-None
 returns-in-None c =
-    order_equal (numbers (alt c.args.pool.now c.args.self.now)) (numbers (alt c.args.pool.now c.args.other.now)) c.loop-x.i (sym c.number.ensures ∙ c.in-default.is) (sym c.number-2.ensures ∙ c.in-None.is) ∙ c.loop-x.invariant.2
+    order_equal (numbers (alt c.args.pool.now c.args.self.now)) (numbers (alt c.args.pool.now c.args.other.now)) c.loop-x.i (sym c.number.ensures ∙ c.in_default.is) (sym c.number-2.ensures ∙ c.in-None.is) ∙ c.loop-x.invariant.2
 
-pub overflow-add-i : goal.overflow-add-i
-overflow-add-i c =
+pub overflow_add-i : goal.overflow_add-i
+overflow_add-i c =
     let pool = c.args.pool.now in
     let w = within_at_some (numbers (alt pool c.args.self.now)) c.loop-x.i c.in-Some.x (sym c.number.ensures ∙ c.in-Some.is) in
     let n = numbers_few pool c.args.self.now c.requires.mine in

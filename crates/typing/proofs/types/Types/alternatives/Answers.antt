@@ -1,22 +1,21 @@
-use Rattle.std.proofs.Common.{◌≡◌, ℕ, ◌<◌, ◌≤◌, true, List, length, get_or, vec_items, vec_len, sym, refl, ap, ◌∙◌, subst, arith}
-use Rattle.membership.specs.Rows.{Row, row, any}
+use Rattle.std.proofs.Common.{◌<◌, ◌≤◌, length, vec_len, sym, refl, ap, arith}
+use Rattle.membership.specs.Rows.{Row}
 use Rattle.typing.specs.Held.{rows_of, pool_of}
-use Rattle.typing.specs.declared.basic.TyBasic.{TyBasic}
 use Rattle.typing.proofs.Reading.{count_of, laid_of, missing_row}
 use Rattle.typing.proofs.Joining.{row_placed, side_read}
 use Rattle.typing.proofs.types.Types.alternatives.Goals as goal
 
-pub alternatives-of-requires : goal.alternatives-of-requires
-alternatives-of-requires c =
+pub alternatives_of-requires : goal.alternatives_of-requires
+alternatives_of-requires c =
     let s = c.args.self.now in
     let l : c.args.t < vec_len s.rows = omega (arith, count_of s, c.count.ensures, c.if-t-count.true) in
-    row_placed (pool_of s) s.all s.rows c.args.t c.index.result.now c.as-slice.result.now (laid_of s) l c.index.ensures c.as-slice.ensures.value
+    row_placed (pool_of s) s.all s.rows c.args.t c.index.result.now c.as_slice.result.now (laid_of s) l c.index.ensures c.as_slice.ensures.value
 
 pub returns-then-t-count : goal.returns-then-t-count
 returns-then-t-count c =
     let s = c.args.self.now in
     let l : c.args.t < vec_len s.rows = omega (arith, count_of s, c.count.ensures, c.if-t-count.true) in
-    let side = side_read (pool_of s) s.all s.rows c.args.t c.index.result.now c.as-slice.result.now c.alternatives-of.result.now (laid_of s) l c.index.ensures c.as-slice.ensures.value c.alternatives-of.ensures in
+    let side = side_read (pool_of s) s.all s.rows c.args.t c.index.result.now c.as_slice.result.now c.alternatives_of.result.now (laid_of s) l c.index.ensures c.as_slice.ensures.value c.alternatives_of.ensures in
     record { are = side.is; pooled = side.fits }
 
 pub returns : goal.returns

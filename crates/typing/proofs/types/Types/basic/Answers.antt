@@ -1,7 +1,6 @@
-use Rattle.std.proofs.Common.{◌≡◌, ℕ, ◌<◌, true, List, length, get_or, vec_items, vec_len, sym, refl, ap, ◌∙◌, subst, arith}
-use Rattle.membership.specs.Rows.{row, any}
+use Rattle.std.proofs.Common.{get_or, refl, arith}
+use Rattle.membership.specs.Rows.{row}
 use Rattle.typing.specs.Held.{rows_of, pool_of}
-use Rattle.typing.specs.declared.basic.TyBasic.{TyBasic}
 use Rattle.typing.specs.declared.basic.TyBasic.TheVariants.{Any}
 use Rattle.typing.proofs.Reading.{as_many, basic_there}
 use Rattle.typing.proofs.types.Types.basic.Goals as goal

@@ -1,9 +1,8 @@
-use Rattle.std.proofs.Common.{◌≡◌, ℕ, ◌<◌, ◌≤◌, true, List, length, get_or, vec_items, vec_len, sym, refl, ap, ◌∙◌, subst, arith}
+use Rattle.std.proofs.Common.{◌<◌, ◌≤◌, length, vec_len, arith}
 use Rattle.membership.specs.Rows.{Row}
 use Rattle.membership.specs.Measures.{weight}
-use Rattle.typing.specs.Held.{rows_of, pool_of}
-use Rattle.typing.specs.declared.basic.TyBasic.{TyBasic}
-use Rattle.typing.proofs.Reading.{count_of, stands_there, says_there, says_missing, read_deep, read_heavy, read_depth, read_weight, as_many}
+use Rattle.typing.specs.Held.{rows_of}
+use Rattle.typing.proofs.Reading.{count_of, stands_there, says_there, says_missing, read_heavy, read_weight}
 use Rattle.typing.proofs.types.Types.weight.Goals as goal
 
 pub returns-then-t-count : goal.returns-then-t-count

@@ -1,8 +1,7 @@
-use Rattle.std.proofs.Common.{◌≡◌, ℕ, ◌<◌, ◌≤◌, true, List, length, get_or, vec_items, vec_len, sym, refl, ap, ◌∙◌, subst, arith}
+use Rattle.std.proofs.Common.{◌<◌, ◌≤◌, length, vec_len, arith}
 use Rattle.membership.specs.Rows.{Row, row}
 use Rattle.typing.specs.Held.{rows_of, pool_of}
-use Rattle.typing.specs.declared.basic.TyBasic.{TyBasic}
-use Rattle.typing.proofs.Reading.{count_of, stands_there, says_there, says_missing, read_deep, read_heavy, read_depth, read_weight, as_many}
+use Rattle.typing.proofs.Reading.{count_of, stands_there, says_there, says_missing, as_many}
 use Rattle.typing.proofs.types.Types.width.Goals as goal
 
 pub returns-then-t-count : goal.returns-then-t-count
