@@ -1,5 +1,5 @@
 -- One frame more on the stack. Assumes nothing.
-use Rattle.std.proofs.Common.{◌≡◌, ℕ, zero, suc, ◌+◌, ◌<◌, Bool, List, [], ◌∷◌, ◌++◌, length, sym, refl, ap, ◌∙◌, subst, arith}
+use Rattle.std.proofs.Common.{◌≡◌, ℕ, zero, suc, ◌+◌, ◌<◌, Bool, List, [], ◌∷◌, ◌++◌, length, refl, ap, subst, arith}
 use Rattle.custom.specs.Worlds.{World}
 use Rattle.matcher.specs.Nodes.{Node}
 use Rattle.matching.specs.Stacks.{Sound, Sounds, above, unwind, load, after, toll}

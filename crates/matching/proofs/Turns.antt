@@ -1,5 +1,5 @@
 -- What one turn of a run keeps. Assumes nothing.
-use Rattle.std.proofs.Common.{◌≡◌, ℕ, zero, suc, ◌+◌, ◌-◌, ◌^◌, ◌<◌, ◌≤◌, Bool, true, false, cond, not, ◌&&◌, ◌||◌, List, [], ◌∷◌, ◌++◌, length, get_or, sym, refl, ap, ◌∙◌, subst, arith}
+use Rattle.std.proofs.Common.{◌≡◌, ℕ, zero, suc, ◌+◌, ◌-◌, ◌^◌, ◌<◌, Bool, true, false, cond, not, ◌&&◌, ◌||◌, List, [], ◌∷◌, ◌++◌, length, get_or, sym, refl, ap, ◌∙◌, subst, arith}
 use mathlib.Core.Bool.{beq}
 use Rattle.values.specs.Cells.{Cell, Closed, cell_at}
 use Rattle.values.specs.declared.value.Value.{Value}
@@ -8,13 +8,13 @@ use Rattle.matcher.specs.Nodes.{Node, node_at_lem, valid, deepest}
 use Rattle.matcher.specs.Meaning.{accepts}
 use Rattle.matcher.specs.declared.kind.Kind.{Kind}
 use Rattle.matching.specs.Shapes.{shape, shape_of, settle, kid_by_lem, inside, kid_of, sub_of, every, either}
-use Rattle.matching.specs.Stacks.{Stands, Place, Sound, Sounds, above, unwind, load, after, toll, turns, burden, weigh, place_says, costs, Ready, Entered, Resumed}
+use Rattle.matching.specs.Stacks.{Stands, Place, Sound, Sounds, above, unwind, after, toll, turns, burden, weigh, place_says, costs, Ready, Entered, Resumed}
 use Rattle.matching.specs.declared.frames.Frame.{Frame}
 use Rattle.matching.specs.declared.asked.Shape.{Shape}
 use Rattle.matching.specs.declared.asked.Shape.TheVariants.{Given, Every, Either}
 use Rattle.matching.proofs.Valids.{facts, stands}
 use Rattle.matching.proofs.Readings.{accepts_by_places}
-use Rattle.matching.proofs.Tops.{above_push, above_length, unwind_push, load_push, sounds_push, Top, sounds_pop}
+use Rattle.matching.proofs.Tops.{above_push, above_length, unwind_push, load_push, sounds_push, sounds_pop}
 use Rattle.matching.proofs.Places.{many, places, depth_of, stands_in, kid_stands, sub_stands}
 
 -- the frame of a node that was just entered

@@ -1,5 +1,6 @@
 // Whether a node of a store accepts a value of a heap.
 #![tactic(auto)]
+
 mod asked;
 mod frames;
 pub mod running;

@@ -25,8 +25,8 @@ fn enter<H: Heap, S: TypeMatcherAlloc, C: TyCustom>(
     store: &S,
     customs: &C,
 ) -> bool
-    requires { Ready (world (cells heap.now) (custom customs.now)) (nodes store.now) (waiting stack.old) n v.0 }
-    ensures { Entered (world (cells heap.now) (custom customs.now)) (nodes store.now) (waiting stack.old) n v.0 (waiting stack.new) result }
+    requires { Ready (world (H.Heap.cells heap.now) (C.TyCustom.custom customs.now)) (S.TypeMatcherAlloc.nodes store.now) (waiting stack.old) n v.0 }
+    ensures { Entered (world (H.Heap.cells heap.now) (C.TyCustom.custom customs.now)) (S.TypeMatcherAlloc.nodes store.now) (waiting stack.old) n v.0 (waiting stack.new) result }
 {
     let kind = kind_at(store, n);
     match shape_of(kind, n, v, heap, store, customs) {
@@ -65,8 +65,8 @@ fn resume<H: Heap, S: TypeMatcherAlloc, C: TyCustom>(
     store: &S,
     customs: &C,
 ) -> bool
-    requires { Sounds (world (cells heap.now) (custom customs.now)) (nodes store.now) deepest (waiting stack.old ++ (f ∷ [])) }
-    ensures { Resumed (world (cells heap.now) (custom customs.now)) (nodes store.now) (waiting stack.old ++ (f ∷ [])) told (waiting stack.new) result }
+    requires { Sounds (world (H.Heap.cells heap.now) (C.TyCustom.custom customs.now)) (S.TypeMatcherAlloc.nodes store.now) deepest (waiting stack.old ++ (f ∷ [])) }
+    ensures { Resumed (world (H.Heap.cells heap.now) (C.TyCustom.custom customs.now)) (S.TypeMatcherAlloc.nodes store.now) (waiting stack.old ++ (f ∷ [])) told (waiting stack.new) result }
 {
     if told != f.all || f.left == 0 {
         return told;
@@ -92,7 +92,7 @@ pub fn run<H: Heap, S: TypeMatcherAlloc, C: TyCustom>(
     store: &S,
     customs: &C,
 ) -> Result<bool, Refusal>
-    ensures { result ≡ verdict (world (cells heap.now) (custom customs.now)) (nodes store.now) root value.0 }
+    ensures { result ≡ verdict (world (H.Heap.cells heap.now) (C.TyCustom.custom customs.now)) (S.TypeMatcherAlloc.nodes store.now) root value.0 }
 {
     if root >= store.count() {
         return Err(Refusal::NoNode);

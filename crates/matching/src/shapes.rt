@@ -56,9 +56,9 @@ fn is_inside(kind: Kind) -> bool
 
 // The value that is asked at the place i.
 pub(crate) fn sub_by<H: Heap>(kind: Kind, v: Value, i: usize, heap: &H) -> Value
-    requires value { v.0 < length (cells heap.now) }
-    requires part { inside kind ≡ true → i < length (cell_at (cells heap.now) v.0).parts }
-    ensures { result.0 ≡ (if inside kind then slice_index (cell_at (cells heap.now) v.0).parts i else v.0) }
+    requires value { v.0 < length (H.Heap.cells heap.now) }
+    requires part { inside kind ≡ true → i < length (cell_at (H.Heap.cells heap.now) v.0).parts }
+    ensures { result.0 ≡ (if inside kind then slice_index (cell_at (H.Heap.cells heap.now) v.0).parts i else v.0) }
 {
     if is_inside(kind) {
         part_at(heap, v, i)
@@ -68,24 +68,24 @@ pub(crate) fn sub_by<H: Heap>(kind: Kind, v: Value, i: usize, heap: &H) -> Value
 }
 
 fn is_type<H: Heap>(heap: &H, v: Value, ty: u16) -> bool
-    requires { v.0 < length (cells heap.now) }
-    ensures { result ≡ ((cell_at (cells heap.now) v.0).ty == ty) }
+    requires { v.0 < length (H.Heap.cells heap.now) }
+    ensures { result ≡ ((cell_at (H.Heap.cells heap.now) v.0).ty == ty) }
 {
     type_at(heap, v) == ty
 }
 
 // Whether the value is a tuple of so many parts.
 fn is_long<H: Heap>(heap: &H, v: Value, len: usize) -> bool
-    requires { v.0 < length (cells heap.now) }
-    ensures { result ≡ ((cell_at (cells heap.now) v.0).ty == 8 && length (cell_at (cells heap.now) v.0).parts == len) }
+    requires { v.0 < length (H.Heap.cells heap.now) }
+    ensures { result ≡ ((cell_at (H.Heap.cells heap.now) v.0).ty == 8 && length (cell_at (H.Heap.cells heap.now) v.0).parts == len) }
 {
     is_type(heap, v, TUPLE) && len_at(heap, v) == len
 }
 
 // Every part of a value of the type.
 fn every_part<H: Heap>(heap: &H, v: Value, ty: u16) -> Shape
-    requires { v.0 < length (cells heap.now) }
-    ensures { result ≡ every_if ((cell_at (cells heap.now) v.0).ty == ty) (length (cell_at (cells heap.now) v.0).parts) }
+    requires { v.0 < length (H.Heap.cells heap.now) }
+    ensures { result ≡ every_if ((cell_at (H.Heap.cells heap.now) v.0).ty == ty) (length (cell_at (H.Heap.cells heap.now) v.0).parts) }
 {
     if is_type(heap, v, ty) {
         Shape::Every(len_at(heap, v))
@@ -96,8 +96,8 @@ fn every_part<H: Heap>(heap: &H, v: Value, ty: u16) -> Shape
 
 // Every part of a tuple of so many parts.
 fn every_place<H: Heap>(heap: &H, v: Value, len: usize) -> Shape
-    requires { v.0 < length (cells heap.now) }
-    ensures { result ≡ every_if ((cell_at (cells heap.now) v.0).ty == 8 && length (cell_at (cells heap.now) v.0).parts == len) len }
+    requires { v.0 < length (H.Heap.cells heap.now) }
+    ensures { result ≡ every_if ((cell_at (H.Heap.cells heap.now) v.0).ty == 8 && length (cell_at (H.Heap.cells heap.now) v.0).parts == len) len }
 {
     if is_long(heap, v, len) {
         Shape::Every(len)
@@ -107,8 +107,8 @@ fn every_place<H: Heap>(heap: &H, v: Value, len: usize) -> Shape
 }
 
 fn is_custom<H: Heap, C: TyCustom>(number: u16, v: Value, heap: &H, customs: &C) -> bool
-    requires { v.0 < length (cells heap.now) }
-    ensures { result ≡ (custom customs.now).says number (cell_at (cells heap.now) v.0).ty (cell_at (cells heap.now) v.0).flags (cell_at (cells heap.now) v.0).mark }
+    requires { v.0 < length (H.Heap.cells heap.now) }
+    ensures { result ≡ (C.TyCustom.custom customs.now).says number (cell_at (H.Heap.cells heap.now) v.0).ty (cell_at (H.Heap.cells heap.now) v.0).flags (cell_at (H.Heap.cells heap.now) v.0).mark }
 {
     customs.matches(
         number,
@@ -126,9 +126,9 @@ pub(crate) fn shape_of<H: Heap, S: TypeMatcherAlloc, C: TyCustom>(
     store: &S,
     customs: &C,
 ) -> Shape
-    requires node { n < length (nodes store.now) }
-    requires value { v.0 < length (cells heap.now) }
-    ensures { result ≡ shape_of kind (node_at_lem (nodes store.now) n) (cell_at (cells heap.now) v.0) (custom customs.now).says }
+    requires node { n < length (S.TypeMatcherAlloc.nodes store.now) }
+    requires value { v.0 < length (H.Heap.cells heap.now) }
+    ensures { result ≡ shape_of kind (node_at_lem (S.TypeMatcherAlloc.nodes store.now) n) (cell_at (H.Heap.cells heap.now) v.0) (C.TyCustom.custom customs.now).says }
 {
     match kind {
         Kind::IsAny => Shape::Given(true),

@@ -1,4 +1,4 @@
-use Rattle.std.proofs.Common.{◌≡◌, ◌<◌, length, sym, refl, ap, ◌∙◌, arith, rules}
+use Rattle.std.proofs.Common.{◌≡◌, ◌<◌, length, sym, refl, ap, ◌∙◌, arith}
 use Rattle.std.proofs.lemmas.Bool.Decides.{nat_tests}
 use Rattle.custom.specs.Worlds.{world}
 use Rattle.matcher.specs.Meaning.{accepts}
@@ -21,7 +21,7 @@ pub returns : goal.returns
 returns g c =
     let W = world (g.H.Heap.cells c.args.heap.now) (g.C.TyCustom.custom c.args.customs.now) in
     let ns = g.S.TypeMatcherAlloc.nodes c.args.store.now in
-    let ended = c.in-default.ensures.0 in
+    let ended = c.in_default.ensures.0 in
     let entered = rw c.new-stack.ensures at c.enter-answer.ensures in
     let answer : c.loop-f.answer ≡ accepts W ns c.args.root c.args.value.0 =
     sym (told_last W ns c.loop-f.answer) ∙ ap (λ fs. unwind W ns fs c.loop-f.answer) (sym ended) ∙ c.loop-f.invariant.1 ∙ entered_first W ns c.args.root c.args.value.0 _ _ entered in

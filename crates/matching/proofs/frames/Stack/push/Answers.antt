@@ -1,4 +1,4 @@
-use Rattle.std.proofs.Common.{◌≡◌, ◌+◌, ◌<◌, ◌≤◌, length, arith, rules}
+use Rattle.std.proofs.Common.{◌≡◌, ◌≤◌, length, arith, rules}
 use Rattle.std.proofs.lemmas.List.{take_more_set}
 use Rattle.matching.specs.Waiting.{waiting}
 use Rattle.matching.proofs.Rooms.{room}
@@ -12,9 +12,9 @@ bounds-self-self c =
     let low : s.height ≤ 64 = omega arith in
     room s.frames s.height 64 long low c.requires
 
-pub invariant-of-self : goal.invariant-of-self
+pub invariant_of-self : goal.invariant_of-self
 unfolding waiting
-invariant-of-self c =
+invariant_of-self c =
     let s = c.args.self.now in
     let long : length s.frames ≡ 64 = search rules in
     let low : s.height ≤ 64 = omega arith in
