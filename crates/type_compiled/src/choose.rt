@@ -19,7 +19,7 @@ fn is_any_kind(kind: Kind) -> bool
 }
 
 fn is_wildcard<S: TypeMatcherAlloc>(store: &S, k: usize) -> bool
-    ensures { result ≡ wildcard (nodes store.now) k }
+    ensures { result ≡ wildcard (S.TypeMatcherAlloc.nodes store.now) k }
 {
     match store.kind(k) {
         Ok(kind) => is_any_kind(kind),
@@ -28,7 +28,7 @@ fn is_wildcard<S: TypeMatcherAlloc>(store: &S, k: usize) -> bool
 }
 
 fn every_is_wildcard<S: TypeMatcherAlloc>(store: &S, kids: &[usize]) -> bool
-    ensures { result ≡ every_wildcard (nodes store.now) kids.now }
+    ensures { result ≡ every_wildcard (S.TypeMatcherAlloc.nodes store.now) kids.now }
 {
     for k in kids {
         if !is_wildcard(store, *k) {
@@ -39,7 +39,7 @@ fn every_is_wildcard<S: TypeMatcherAlloc>(store: &S, kids: &[usize]) -> bool
 }
 
 fn some_is_wildcard<S: TypeMatcherAlloc>(store: &S, kids: &[usize]) -> bool
-    ensures { result ≡ some_wildcard (nodes store.now) kids.now }
+    ensures { result ≡ some_wildcard (S.TypeMatcherAlloc.nodes store.now) kids.now }
 {
     for k in kids {
         if is_wildcard(store, *k) {
@@ -51,9 +51,9 @@ fn some_is_wildcard<S: TypeMatcherAlloc>(store: &S, kids: &[usize]) -> bool
 
 // Writes a node that can be written.
 fn write<S: TypeMatcherAlloc>(store: &mut S, kind: Kind, number: u16, kids: &[usize]) -> usize
-    requires { Can (limit store.old) (nodes store.old) (node kind number kids.now) }
-    ensures wrote { Wrote S.TypeMatcherAlloc.sharing (nodes store.old) (node kind number kids.now) result (nodes store.new) }
-    ensures limit { limit store.new ≡ limit store.old }
+    requires { Can (S.TypeMatcherAlloc.limit store.old) (S.TypeMatcherAlloc.nodes store.old) (node kind number kids.now) }
+    ensures wrote { Wrote S.TypeMatcherAlloc.sharing (S.TypeMatcherAlloc.nodes store.old) (node kind number kids.now) result (S.TypeMatcherAlloc.nodes store.new) }
+    ensures limit { S.TypeMatcherAlloc.limit store.new ≡ S.TypeMatcherAlloc.limit store.old }
 {
     match store.alloc(kind, number, kids) {
         Ok(n) => n,
@@ -63,9 +63,9 @@ fn write<S: TypeMatcherAlloc>(store: &mut S, kind: Kind, number: u16, kids: &[us
 
 // `list[Item]`.
 fn list_of_matcher<S: TypeMatcherAlloc>(store: &mut S, item: &[usize]) -> usize
-    requires { Can (limit store.old) (nodes store.old) (chosen ListOf (nodes store.old) item.now) }
-    ensures wrote { Wrote S.TypeMatcherAlloc.sharing (nodes store.old) (chosen ListOf (nodes store.old) item.now) result (nodes store.new) }
-    ensures limit { limit store.new ≡ limit store.old }
+    requires { Can (S.TypeMatcherAlloc.limit store.old) (S.TypeMatcherAlloc.nodes store.old) (chosen ListOf (S.TypeMatcherAlloc.nodes store.old) item.now) }
+    ensures wrote { Wrote S.TypeMatcherAlloc.sharing (S.TypeMatcherAlloc.nodes store.old) (chosen ListOf (S.TypeMatcherAlloc.nodes store.old) item.now) result (S.TypeMatcherAlloc.nodes store.new) }
+    ensures limit { S.TypeMatcherAlloc.limit store.new ≡ S.TypeMatcherAlloc.limit store.old }
 {
     if every_is_wildcard(store, item) {
         write(store, Kind::IsList, 0, &[])
@@ -76,9 +76,9 @@ fn list_of_matcher<S: TypeMatcherAlloc>(store: &mut S, item: &[usize]) -> usize
 
 // `set[Item]`.
 fn set_of_matcher<S: TypeMatcherAlloc>(store: &mut S, item: &[usize]) -> usize
-    requires { Can (limit store.old) (nodes store.old) (chosen SetOf (nodes store.old) item.now) }
-    ensures wrote { Wrote S.TypeMatcherAlloc.sharing (nodes store.old) (chosen SetOf (nodes store.old) item.now) result (nodes store.new) }
-    ensures limit { limit store.new ≡ limit store.old }
+    requires { Can (S.TypeMatcherAlloc.limit store.old) (S.TypeMatcherAlloc.nodes store.old) (chosen SetOf (S.TypeMatcherAlloc.nodes store.old) item.now) }
+    ensures wrote { Wrote S.TypeMatcherAlloc.sharing (S.TypeMatcherAlloc.nodes store.old) (chosen SetOf (S.TypeMatcherAlloc.nodes store.old) item.now) result (S.TypeMatcherAlloc.nodes store.new) }
+    ensures limit { S.TypeMatcherAlloc.limit store.new ≡ S.TypeMatcherAlloc.limit store.old }
 {
     if every_is_wildcard(store, item) {
         write(store, Kind::IsSet, 0, &[])
@@ -89,9 +89,9 @@ fn set_of_matcher<S: TypeMatcherAlloc>(store: &mut S, item: &[usize]) -> usize
 
 // `dict[Key, Value]`: a lone wildcard stays as its kid.
 fn dict_of_matcher<S: TypeMatcherAlloc>(store: &mut S, sides: &[usize]) -> usize
-    requires { Can (limit store.old) (nodes store.old) (chosen DictOf (nodes store.old) sides.now) }
-    ensures wrote { Wrote S.TypeMatcherAlloc.sharing (nodes store.old) (chosen DictOf (nodes store.old) sides.now) result (nodes store.new) }
-    ensures limit { limit store.new ≡ limit store.old }
+    requires { Can (S.TypeMatcherAlloc.limit store.old) (S.TypeMatcherAlloc.nodes store.old) (chosen DictOf (S.TypeMatcherAlloc.nodes store.old) sides.now) }
+    ensures wrote { Wrote S.TypeMatcherAlloc.sharing (S.TypeMatcherAlloc.nodes store.old) (chosen DictOf (S.TypeMatcherAlloc.nodes store.old) sides.now) result (S.TypeMatcherAlloc.nodes store.new) }
+    ensures limit { S.TypeMatcherAlloc.limit store.new ≡ S.TypeMatcherAlloc.limit store.old }
 {
     if every_is_wildcard(store, sides) {
         write(store, Kind::IsDict, 0, &[])
@@ -102,9 +102,9 @@ fn dict_of_matcher<S: TypeMatcherAlloc>(store: &mut S, sides: &[usize]) -> usize
 
 // `A | B`: a wildcard side makes it a wildcard.
 fn any_of_two_matcher<S: TypeMatcherAlloc>(store: &mut S, sides: &[usize]) -> usize
-    requires { Can (limit store.old) (nodes store.old) (chosen AnyOfTwo (nodes store.old) sides.now) }
-    ensures wrote { Wrote S.TypeMatcherAlloc.sharing (nodes store.old) (chosen AnyOfTwo (nodes store.old) sides.now) result (nodes store.new) }
-    ensures limit { limit store.new ≡ limit store.old }
+    requires { Can (S.TypeMatcherAlloc.limit store.old) (S.TypeMatcherAlloc.nodes store.old) (chosen AnyOfTwo (S.TypeMatcherAlloc.nodes store.old) sides.now) }
+    ensures wrote { Wrote S.TypeMatcherAlloc.sharing (S.TypeMatcherAlloc.nodes store.old) (chosen AnyOfTwo (S.TypeMatcherAlloc.nodes store.old) sides.now) result (S.TypeMatcherAlloc.nodes store.new) }
+    ensures limit { S.TypeMatcherAlloc.limit store.new ≡ S.TypeMatcherAlloc.limit store.old }
 {
     if some_is_wildcard(store, sides) {
         write(store, Kind::IsAny, 0, &[])
@@ -115,9 +115,9 @@ fn any_of_two_matcher<S: TypeMatcherAlloc>(store: &mut S, sides: &[usize]) -> us
 
 // A union of three or more.
 fn any_of_matcher<S: TypeMatcherAlloc>(store: &mut S, alternatives: &[usize]) -> usize
-    requires { Can (limit store.old) (nodes store.old) (chosen (AnyOf 0) (nodes store.old) alternatives.now) }
-    ensures wrote { Wrote S.TypeMatcherAlloc.sharing (nodes store.old) (chosen (AnyOf 0) (nodes store.old) alternatives.now) result (nodes store.new) }
-    ensures limit { limit store.new ≡ limit store.old }
+    requires { Can (S.TypeMatcherAlloc.limit store.old) (S.TypeMatcherAlloc.nodes store.old) (chosen (AnyOf 0) (S.TypeMatcherAlloc.nodes store.old) alternatives.now) }
+    ensures wrote { Wrote S.TypeMatcherAlloc.sharing (S.TypeMatcherAlloc.nodes store.old) (chosen (AnyOf 0) (S.TypeMatcherAlloc.nodes store.old) alternatives.now) result (S.TypeMatcherAlloc.nodes store.new) }
+    ensures limit { S.TypeMatcherAlloc.limit store.new ≡ S.TypeMatcherAlloc.limit store.old }
 {
     if some_is_wildcard(store, alternatives) {
         write(store, Kind::IsAny, 0, &[])
@@ -142,9 +142,9 @@ pub(crate) fn takes(op: Op) -> usize
 
 // Writes the node of a step over its kids.
 pub(crate) fn write_op<S: TypeMatcherAlloc>(store: &mut S, op: Op, kids: &[usize]) -> usize
-    requires { Can (limit store.old) (nodes store.old) (chosen op (nodes store.old) kids.now) }
-    ensures wrote { Wrote S.TypeMatcherAlloc.sharing (nodes store.old) (chosen op (nodes store.old) kids.now) result (nodes store.new) }
-    ensures limit { limit store.new ≡ limit store.old }
+    requires { Can (S.TypeMatcherAlloc.limit store.old) (S.TypeMatcherAlloc.nodes store.old) (chosen op (S.TypeMatcherAlloc.nodes store.old) kids.now) }
+    ensures wrote { Wrote S.TypeMatcherAlloc.sharing (S.TypeMatcherAlloc.nodes store.old) (chosen op (S.TypeMatcherAlloc.nodes store.old) kids.now) result (S.TypeMatcherAlloc.nodes store.new) }
+    ensures limit { S.TypeMatcherAlloc.limit store.new ≡ S.TypeMatcherAlloc.limit store.old }
 {
     match op {
         Op::Write(kind, number, _) => write(store, kind, number, kids),

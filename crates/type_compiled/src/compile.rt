@@ -24,10 +24,10 @@ fn write_ty<C: TyCustom, S: TypeMatcherAlloc>(
     t: usize,
 ) -> usize
     requires stands { t < length (rows_of types.now) }
-    requires room { 2 * (row (rows_of types.now) t).heavy ≤ limit store.old - used (nodes store.old) }
-    ensures nodes { nodes store.new ≡ (written S.TypeMatcherAlloc.sharing (rows_of types.now) (C.TyCustom.custom customs.now).wild t (nodes store.old)).nodes }
-    ensures root { result ≡ (written S.TypeMatcherAlloc.sharing (rows_of types.now) (C.TyCustom.custom customs.now).wild t (nodes store.old)).root }
-    ensures limit { limit store.new ≡ limit store.old }
+    requires room { 2 * (row (rows_of types.now) t).heavy ≤ S.TypeMatcherAlloc.limit store.old - used (S.TypeMatcherAlloc.nodes store.old) }
+    ensures nodes { S.TypeMatcherAlloc.nodes store.new ≡ (written S.TypeMatcherAlloc.sharing (rows_of types.now) (C.TyCustom.custom customs.now).wild t (S.TypeMatcherAlloc.nodes store.old)).nodes }
+    ensures root { result ≡ (written S.TypeMatcherAlloc.sharing (rows_of types.now) (C.TyCustom.custom customs.now).wild t (S.TypeMatcherAlloc.nodes store.old)).root }
+    ensures limit { S.TypeMatcherAlloc.limit store.new ≡ S.TypeMatcherAlloc.limit store.old }
 {
     scratch.start(t);
     while let Some(task) = scratch.pop() {
@@ -42,7 +42,7 @@ fn write_ty<C: TyCustom, S: TypeMatcherAlloc>(
 // Whether twice the weight of the type is free.
 fn has_room<S: TypeMatcherAlloc>(types: &Types, store: &S, t: usize) -> bool
     requires { t < length (rows_of types.now) }
-    ensures { result ≡ nat_le (2 * (row (rows_of types.now) t).heavy) (limit store.now - used (nodes store.now)) }
+    ensures { result ≡ nat_le (2 * (row (rows_of types.now) t).heavy) (S.TypeMatcherAlloc.limit store.now - used (S.TypeMatcherAlloc.nodes store.now)) }
 {
     2 * weight_of(types, t) <= store.free()
 }
@@ -55,10 +55,10 @@ pub fn alloc_ty<C: TyCustom, S: TypeMatcherAlloc>(
     store: &mut S,
     annotations: &mut Annotations,
 ) -> Result<TypeCompiled, Refusal>
-    ensures made { Compiled (alloc_ty_lem S.TypeMatcherAlloc.sharing (limit store.old) (rows_of types.now) (C.TyCustom.custom customs.now).wild factory.ty (nodes store.old) (annotations_of annotations.old)) (nodes store.old) (annotations_of annotations.old) result (nodes store.new) (annotations_of annotations.new) }
-    ensures means { Meant (C.TyCustom.custom customs.now) (rows_of types.now) factory.ty (nodes store.new) (annotations_of annotations.new) result }
-    ensures stand { take (length (nodes store.old)) (nodes store.new) ≡ nodes store.old }
-    ensures limit { limit store.new ≡ limit store.old }
+    ensures made { Compiled (alloc_ty_lem S.TypeMatcherAlloc.sharing (S.TypeMatcherAlloc.limit store.old) (rows_of types.now) (C.TyCustom.custom customs.now).wild factory.ty (S.TypeMatcherAlloc.nodes store.old) (annotations_of annotations.old)) (S.TypeMatcherAlloc.nodes store.old) (annotations_of annotations.old) result (S.TypeMatcherAlloc.nodes store.new) (annotations_of annotations.new) }
+    ensures means { Meant (C.TyCustom.custom customs.now) (rows_of types.now) factory.ty (S.TypeMatcherAlloc.nodes store.new) (annotations_of annotations.new) result }
+    ensures stand { take (length (S.TypeMatcherAlloc.nodes store.old)) (S.TypeMatcherAlloc.nodes store.new) ≡ S.TypeMatcherAlloc.nodes store.old }
+    ensures limit { S.TypeMatcherAlloc.limit store.new ≡ S.TypeMatcherAlloc.limit store.old }
 {
     let t = factory.ty;
     if t >= types.count() {

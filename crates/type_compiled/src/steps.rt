@@ -16,10 +16,10 @@ use typing::types::Types;
 impl Scratch {
     // Takes a step: the last results are the kids.
     fn step<S: TypeMatcherAlloc>(&mut self, store: &mut S, op: Op)
-        requires grants { Grants (limit store.old) op (state (nodes store.old) self.old.results.items) }
+        requires grants { Grants (S.TypeMatcherAlloc.limit store.old) op (state (S.TypeMatcherAlloc.nodes store.old) self.old.results.items) }
         requires room { vec_len self.old.results < most_results }
-        ensures state { state (nodes store.new) self.new.results.items ≡ exec S.TypeMatcherAlloc.sharing op (state (nodes store.old) self.old.results.items) }
-        ensures limit { limit store.new ≡ limit store.old }
+        ensures state { state (S.TypeMatcherAlloc.nodes store.new) self.new.results.items ≡ exec S.TypeMatcherAlloc.sharing op (state (S.TypeMatcherAlloc.nodes store.old) self.old.results.items) }
+        ensures limit { S.TypeMatcherAlloc.limit store.new ≡ S.TypeMatcherAlloc.limit store.old }
         ensures tasks { self.new.tasks.items ≡ self.old.tasks.items }
     {
         let rest = self.results.len() - takes(op);
@@ -37,11 +37,11 @@ impl Scratch {
         task: Task,
     )
         requires fine { Fine (rows_of types.now) task }
-        requires ready { Ready (limit store.old) task (state (nodes store.old) self.old.results.items) }
+        requires ready { Ready (S.TypeMatcherAlloc.limit store.old) task (state (S.TypeMatcherAlloc.nodes store.old) self.old.results.items) }
         requires tasks { vec_len self.old.tasks + 3 ≤ most_tasks }
         ensures tasks { self.new.tasks.items ≡ self.old.tasks.items ++ listed (expand (rows_of types.now) (C.TyCustom.custom customs.now).wild task) }
-        ensures state { state (nodes store.new) self.new.results.items ≡ advance S.TypeMatcherAlloc.sharing task (state (nodes store.old) self.old.results.items) }
-        ensures limit { limit store.new ≡ limit store.old }
+        ensures state { state (S.TypeMatcherAlloc.nodes store.new) self.new.results.items ≡ advance S.TypeMatcherAlloc.sharing task (state (S.TypeMatcherAlloc.nodes store.old) self.old.results.items) }
+        ensures limit { S.TypeMatcherAlloc.limit store.new ≡ S.TypeMatcherAlloc.limit store.old }
     {
         match task {
             Task::Step(op) => self.step(store, op),
