@@ -1,26 +1,24 @@
 -- What holds of every set that calls lead to from a blank one. Assumes nothing.
-use Rattle.std.proofs.Common.{◌≡◌, ℕ, suc, ◌+◌, ◌<◌, ◌≤◌, Bool, true, false, cond, ◌||◌, ltb, ◌⊎◌, List, [], ◌∷◌, ◌++◌, length, get_or, sym, refl, ap, ◌∙◌, subst, inl, inr, arith, length-append}
+use Rattle.std.proofs.Common.{◌≡◌, ℕ, ◌<◌, ◌≤◌, Bool, true, ◌⊎◌, List, [], ◌∷◌, ◌++◌, length, get_or, sym, refl, ap, ◌∙◌, subst, inl, inr, arith, length-append}
 use Rattle.std.proofs.lemmas.List.{get_or_append_left, get_or_push}
 use Rattle.std.proofs.lemmas.Bool.{cases_lt}
-use Rattle.values.specs.Cells.{Cell, Closed}
+use Rattle.values.specs.Cells.{Closed}
 use Rattle.values.specs.Lives.{Live, blank_over}
 use Rattle.custom.specs.Customs.{Custom, Open}
 use Rattle.custom.specs.Worlds.{world}
-use Rattle.membership.specs.Rows.{Row, Sound, Keeps, start, union2}
-use Rattle.membership.specs.Members.{member}
+use Rattle.membership.specs.Rows.{Row, Sound, Keeps, union2}
 use Rattle.membership.proofs.Joins.{keeps_length, keeps_trans}
 use Rattle.membership.proofs.Kepts.{keeps_here}
 use Rattle.membership.proofs.Laws.{growing}
 use Rattle.matcher.specs.Nodes.{Node, valid}
-use Rattle.matcher.specs.Meaning.{accepts}
-use Rattle.compiling.specs.Outcomes.{annotation, Entered, Outcome, granted, refused, added, Means, Right}
+use Rattle.compiling.specs.Outcomes.{annotation, Entered, Outcome, granted, refused, Means}
 use Rattle.compiling.specs.Written.{written}
 use Rattle.compiling.specs.declared.annotation.Annotation.{Annotation}
 use Rattle.compiling.proofs.Rights.{right_by, was_granted}
 use Rattle.runs.specs.Acts.{Act, new_cell, put_part, freeze_all, make_type, union_of, alloc_type, check_value}
 use Rattle.runs.specs.States.{State, with_heap, with_rows, with_annotations, annotation_in, after, after_entry, entry}
 use Rattle.runs.specs.Runs.{Blank}
-use Rattle.runs.proofs.Fronts.{Front, front_here, front_more, front_length, front_trans, front_at}
+use Rattle.runs.proofs.Fronts.{Front, front_here, front_more, front_length, front_trans}
 use Rattle.runs.proofs.Heaps.{Firm, Later, later_here, later_trans, Goes, goes_new, goes_put, goes_freeze}
 use Rattle.runs.proofs.Stores.{accepts_kept, valid_written}
 use Rattle.runs.proofs.Tables.{Grows, made_grows, union_grows, start_sound}

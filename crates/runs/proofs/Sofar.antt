@@ -3,8 +3,8 @@ use Rattle.std.proofs.Common.{◌≡◌, Bool, List, [], ◌∷◌, ◌++◌, ma
 use Rattle.custom.specs.Customs.{Custom, Open}
 use Rattle.runs.specs.Acts.{Act, Answer}
 use Rattle.runs.specs.States.{State, OutcomeOf}
-use Rattle.runs.specs.Runs.{Step, Run, end, Reaches, Blank}
-use Rattle.runs.specs.Throughout.{Throughout, Ran}
+use Rattle.runs.specs.Runs.{Step, Run, end, Reaches}
+use Rattle.runs.specs.Throughout.{Ran}
 use Rattle.runs.proofs.Whole.{throughout}
 
 -- the calls so far, their answers, and the set that they led to

@@ -1,9 +1,9 @@
 -- What compiling keeps of a store. Assumes nothing.
-use Rattle.std.proofs.Common.{◌≡◌, ℕ, ◌+◌, ◌-◌, ◌*◌, ◌<◌, ◌≤◌, Bool, true, false, cond, ◌⊎◌, List, [], ◌∷◌, ◌++◌, length, get_or, drop, sym, refl, ap, ◌∙◌, subst, inl, inr, append_assoc, append-nil, arith}
+use Rattle.std.proofs.Common.{◌≡◌, ℕ, ◌+◌, ◌-◌, ◌*◌, ◌<◌, ◌≤◌, Bool, true, ◌⊎◌, List, [], ◌∷◌, ◌++◌, length, drop, sym, ap, ◌∙◌, subst, inl, inr, append_assoc, append-nil, arith}
 use Rattle.std.proofs.lemmas.Bool.{cases_lt}
 use Rattle.custom.specs.Worlds.{World}
 use Rattle.matcher.specs.Nodes.{Node, valid, used, place, put, is_granted}
-use Rattle.matcher.specs.Meaning.{accepts, tests, nay, Test}
+use Rattle.matcher.specs.Meaning.{accepts, Test}
 use Rattle.matcher.proofs.Grows.{valid_push, valid_used, put_old, put_new}
 use Rattle.membership.specs.Rows.{Row, row, Sound}
 use Rattle.compiling.specs.Code.{State, state, op_node, exec, execs, code, Grants, Safe}

@@ -1,7 +1,7 @@
 -- What the type calls keep. Assumes nothing.
-use Rattle.std.proofs.Common.{◌≡◌, ℕ, ◌+◌, ◌<◌, Bool, true, false, cond, ◌&&◌, List, [], ◌∷◌, length, sym, refl, ap, ◌∙◌, subst, arith}
+use Rattle.std.proofs.Common.{◌≡◌, ℕ, ◌+◌, Bool, true, false, cond, List, [], ◌∷◌, length, refl, ap, ◌∙◌, subst, arith}
 use Rattle.std.proofs.lemmas.Bool.{and_from}
-use Rattle.membership.specs.Rows.{Alt, parts, plainly, formed, all_below_lem, below, Row, Grown, Outcome, granted, refused, judged, verdict, intern, join, single, union2, Kept, Sound, Keeps, start}
+use Rattle.membership.specs.Rows.{Alt, parts, plainly, formed, all_below_lem, Row, Grown, Outcome, granted, refused, judged, verdict, intern, join, single, union2, Kept, Sound, Keeps, start}
 use Rattle.membership.proofs.Kepts.{Fine, alone_formed, intern_fine, join_fine, keeps_here}
 use Rattle.membership.proofs.Laws.{kept_of, judged_granted, union_granted}
 use Rattle.runs.specs.States.{made, rows_after}

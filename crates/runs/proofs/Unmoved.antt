@@ -1,13 +1,12 @@
 -- A refused call leaves the set as it was. Assumes nothing.
-use Rattle.std.proofs.Common.{◌≡◌, ℕ, Bool, true, false, cond, ◌&&◌, ltb, length, is_ok, Ok, Err, Result, sym, refl, arith}
-use Rattle.values.specs.Cells.{Cell, cell_at}
+use Rattle.std.proofs.Common.{◌≡◌, ℕ, Bool, cond, is_ok, Ok, Err, Result, refl, arith}
 use Rattle.values.specs.Lives.{Live, new_says, put_says}
 use Rattle.values.specs.declared.refusal.Refusal.{Refusal}
 use Rattle.values.specs.declared.value.Value.{Value}
 use Rattle.custom.specs.Customs.{Custom}
 use Rattle.membership.specs.Rows.{Outcome as RowsOutcome, granted, refused as Turned-down, union2}
 use Rattle.compiling.specs.Outcomes.{Outcome as CompileOutcome, granted as entered-as, refused as not_entered}
-use Rattle.runs.specs.Acts.{Act, new_cell, put_part, freeze_all, make_type, union_of, alloc_type, check_value, Answer, done, refused, value_told, done_told}
+use Rattle.runs.specs.Acts.{Act, new_cell, put_part, freeze_all, make_type, union_of, alloc_type, check_value, refused, value_told, done_told}
 use Rattle.runs.specs.States.{State, with_heap, with_rows, made, type_answer, rows_after, annotation_answer, after_entry, entry, answer, after}
 
 module _ (s : State) (n : ℕ) where

@@ -1,22 +1,22 @@
 -- The law by places, of every run from a blank set. Assumes nothing.
-use Rattle.std.proofs.Common.{◌≡◌, ℕ, zero, suc, ◌+◌, ◌<◌, ◌≤◌, Bool, true, false, cond, ◌&&◌, ◌||◌, ltb, ◌⊎◌, List, [], ◌∷◌, length, get_or, sym, refl, ap, ◌∙◌, subst, ap₂, inl, inr, ⊎_elim, arith}
+use Rattle.std.proofs.Common.{◌≡◌, ℕ, zero, suc, ◌+◌, ◌<◌, ◌≤◌, Bool, true, false, cond, ◌&&◌, ◌||◌, ltb, ◌⊎◌, List, [], ◌∷◌, length, sym, refl, ap, ◌∙◌, subst, ap₂, inl, inr, ⊎_elim, arith}
 use Rattle.std.proofs.lemmas.Bool.{and_from, lt-ltb}
 use Rattle.custom.specs.Customs.{Custom, Open}
 use Rattle.custom.specs.Worlds.{World}
-use Rattle.membership.specs.Rows.{Row, row, Grown, granted, refused, Outcome, union2, Keeps, Sound, merges, any_of, is_list, is_dict}
-use Rattle.membership.specs.Members.{member, UnionMembers}
-use Rattle.membership.proofs.Joins.{keeps_row, keeps_length, keeps_trans}
+use Rattle.membership.specs.Rows.{Row, Grown, granted, refused, Outcome, union2, Keeps, Sound, merges, any_of, is_list, is_dict}
+use Rattle.membership.specs.Members.{member}
+use Rattle.membership.proofs.Joins.{keeps_row, keeps_length}
 use Rattle.membership.proofs.Laws.{growing, unions, union_granted, kept_of}
 use Rattle.membership.proofs.Kepts.{Fine, join_fine}
 use Rattle.matcher.specs.Meaning.{accepts}
 use Rattle.compiling.specs.Outcomes.{annotation}
 use Rattle.compiling.specs.declared.annotation.Annotation.{Annotation}
-use Rattle.runs.specs.Acts.{Act, union_of, check_value, Answer, type_is, says, refused as refused-by}
-use Rattle.runs.specs.States.{State, annotation_in, world_of, OutcomeOf, answer, after, type_answer, rows_after, check_says}
-use Rattle.runs.specs.Runs.{Step, Run, state_at, Made, Blank}
-use Rattle.runs.specs.Throughout.{Has, SaysOf, Checks, Joins, Same, Stands, Compiled, Frozen, Throughout, EveryRunKeepsTheLaw}
+use Rattle.runs.specs.Acts.{Act, union_of, Answer, type_is, says, refused as refused-by}
+use Rattle.runs.specs.States.{State, annotation_in, world_of, OutcomeOf, type_answer, rows_after, check_says}
+use Rattle.runs.specs.Runs.{Step, Run, state_at, Made}
+use Rattle.runs.specs.Throughout.{SaysOf, Checks, Joins, Same, Throughout, EveryRunKeepsTheLaw}
 use Rattle.runs.proofs.Fronts.{front_length, front_at}
-use Rattle.runs.proofs.Goods.{Noted, Good, Onward, onward_here, onward_trans, Leads, act_leads, blank_good}
+use Rattle.runs.proofs.Goods.{Good, Onward, onward_here, onward_trans, Leads, act_leads, blank_good}
 use Rattle.runs.proofs.Reach.{member_same}
 use Rattle.runs.proofs.Unmoved.{unmoved}
 

@@ -1,14 +1,12 @@
 -- A working set as plain lists, and the outcome of each call: its answer and the set after it. Assumes nothing.
 use Rattle.std.specs.Prelude.{◌≡◌, ℕ, Bool, cond, ◌&&◌, List, length, nat_lt, slice_index_or}
-use Rattle.values.specs.Cells.{Cell}
 use Rattle.values.specs.Lives.{Live, new_says, new_leaves, put_says, put_leaves, frozen_all}
 use Rattle.custom.specs.Customs.{Custom}
 use Rattle.custom.specs.Worlds.{World, world}
-use Rattle.membership.specs.Rows.{Alt, plainly, Row, Grown, Outcome as RowsOutcome, granted, refused as Turned-down, single, union2}
-use Rattle.membership.specs.Members.{member}
+use Rattle.membership.specs.Rows.{Alt, plainly, Row, Outcome as RowsOutcome, granted, refused as Turned-down, single, union2}
 use Rattle.matcher.specs.Nodes.{Node}
 use Rattle.matcher.specs.Meaning.{accepts}
-use Rattle.compiling.specs.Outcomes.{annotation, Entered, Outcome as CompileOutcome, granted as entered-as, refused as not_entered, alloc_ty_lem}
+use Rattle.compiling.specs.Outcomes.{annotation, Outcome as CompileOutcome, granted as entered-as, refused as not_entered, alloc_ty_lem}
 use Rattle.compiling.specs.declared.annotation.Annotation.{Annotation}
 use Rattle.runs.specs.Acts.{Act, new_cell, put_part, freeze_all, make_type, union_of, alloc_type, check_value, Answer, done, type_is, annotation_is, says, refused, value_told, done_told}
 
