@@ -1,11 +1,10 @@
 -- What alloc_ty leaves. Assumes nothing.
-use Rattle.std.proofs.Common.{◌≡◌, ℕ, ◌+◌, ◌-◌, ◌*◌, ◌<◌, ◌≤◌, Bool, true, cond, ltb, List, [], ◌∷◌, ◌++◌, length, get_or, take, sym, refl, ap, ◌∙◌, subst, ap₂, arith}
+use Rattle.std.proofs.Common.{◌≡◌, ℕ, ◌+◌, ◌≤◌, Bool, true, cond, List, [], ◌∷◌, ◌++◌, length, take, sym, refl, ap, ◌∙◌, subst, ap₂, arith}
 use Rattle.std.proofs.lemmas.List.{get_or_push, take_all}
 use Rattle.std.proofs.lemmas.Bool.{le-ltb}
 use Rattle.custom.specs.Customs.{Custom, Open}
 use Rattle.matcher.specs.Nodes.{Node, valid}
 use Rattle.membership.specs.Rows.{Row, row, Sound}
-use Rattle.membership.specs.Readings.{alt_at}
 use Rattle.compiling.specs.Written.{written}
 use Rattle.compiling.specs.Outcomes.{alloc_ty_lem, granted, entered, annotation, Means}
 use Rattle.compiling.specs.Tasks.{expand_alternatives}

@@ -1,5 +1,6 @@
 // Annotations compiled to matchers.
 #![tactic(auto)]
+
 pub mod annotations;
 mod choose;
 pub mod compile;

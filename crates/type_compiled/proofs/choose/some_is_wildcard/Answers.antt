@@ -1,21 +1,21 @@
-use Rattle.std.proofs.Common.{◌≡◌, ◌+◌, ◌||◌, drop, sym, ap, ◌∙◌}
+use Rattle.std.proofs.Common.{◌+◌, ◌||◌, drop, sym, ap, ◌∙◌}
 use Rattle.compiling.specs.Written.{some_wildcard}
 use Rattle.compiling.proofs.Wilds.{some_step, some_end}
 use Rattle.type_compiled.proofs.choose.some_is_wildcard.Goals as goal
 
-pub returns-then-is-wildcard : goal.returns-then-is-wildcard
-returns-then-is-wildcard g c =
+pub returns-then-is_wildcard : goal.returns-then-is_wildcard
+returns-then-is_wildcard g c =
     let ns = g.S.TypeMatcherAlloc.nodes c.args.store.now in
     let ks = c.args.kids.now in
     let i = c.loop-k.k-index in
-    ap (λ b. b || some_wildcard ns (drop (i + 1) ks)) c.if-is-wildcard.ensures ∙ sym (some_step ns ks i c.loop-k-test.true) ∙ c.loop-k.invariant
+    ap (λ b. b || some_wildcard ns (drop (i + 1) ks)) c.if-is_wildcard.ensures ∙ sym (some_step ns ks i c.loop-k-test.true) ∙ c.loop-k.invariant
 
 pub loop-k-preserved : goal.loop-k-preserved
 loop-k-preserved g c =
     let ns = g.S.TypeMatcherAlloc.nodes c.args.store.now in
     let ks = c.args.kids.now in
     let i = c.loop-k.k-index in
-    ap (λ b. b || some_wildcard ns (drop (i + 1) ks)) c.if-is-wildcard.ensures ∙ sym (some_step ns ks i c.loop-k-test.true) ∙ c.loop-k.invariant
+    ap (λ b. b || some_wildcard ns (drop (i + 1) ks)) c.if-is_wildcard.ensures ∙ sym (some_step ns ks i c.loop-k-test.true) ∙ c.loop-k.invariant
 
 pub returns : goal.returns
 returns g c = sym (some_end (g.S.TypeMatcherAlloc.nodes c.args.store.now) c.args.kids.now c.loop-k.k-index c.loop-k-test.false) ∙ c.loop-k.invariant

@@ -1,10 +1,7 @@
-use Rattle.std.proofs.Common.{◌≡◌, ℕ, ◌+◌, ◌-◌, ◌*◌, ◌<◌, ◌≤◌, List, [], ◌∷◌, ◌++◌, length, vec_items, vec_len, sym, refl, ap, ◌∙◌, subst, arith}
-use Rattle.matcher.specs.Nodes.{used}
-use Rattle.matcher.proofs.Grows.{valid_used}
-use Rattle.membership.specs.Rows.{row}
+use Rattle.std.proofs.Common.{[], length, vec_items, sym, refl, ap, ◌∙◌, subst, arith}
 use Rattle.typing.specs.Held.{rows_of}
 use Rattle.compiling.specs.Code.{State, state, code, execs}
-use Rattle.compiling.specs.Tasks.{Ready, Going}
+use Rattle.compiling.specs.Tasks.{Ready}
 use Rattle.compiling.proofs.Makes.{start, going_start, root_is, root_some}
 use Rattle.compiling.proofs.Turns.{taken_from, keeps_from, falls_from, ended}
 use Rattle.compiling.proofs.Writtens.{code_writes}
@@ -71,8 +68,8 @@ unreachable-requires g c =
     let v = g.met.S.TypeMatcherAlloc.granted store in
     let t = c.args.t in
     let s = start rows w sh limit ns t (fine_of c.args.types.now) c.requires.stands v (room_of limit rows ns t v c.requires.room) in
-    let e = ended rows w sh limit (execs sh (code rows w t) (state ns [])) _ (vec_items c.loop-task.scratch.tasks) c.in-default.ensures.tasks.0 c.loop-task.invariant.1 in
-    root_some (execs sh (code rows w t) (state ns [])) (g.S.TypeMatcherAlloc.nodes c.loop-task.store) (vec_items c.loop-task.scratch.results) s.root.0 e s.root.1 (sym (ap length c.in-default.ensures.results) ∙ omega (arith, c.in-None.ensures.cases.0, c.pop.new.self.results.ok.0))
+    let e = ended rows w sh limit (execs sh (code rows w t) (state ns [])) _ (vec_items c.loop-task.scratch.tasks) c.in_default.ensures.tasks.0 c.loop-task.invariant.1 in
+    root_some (execs sh (code rows w t) (state ns [])) (g.S.TypeMatcherAlloc.nodes c.loop-task.store) (vec_items c.loop-task.scratch.results) s.root.0 e s.root.1 (sym (ap length c.in_default.ensures.results) ∙ omega (arith, c.in-None.ensures.cases.0, c.pop.new.self.results.ok.0))
 
 pub returns : goal.returns
 returns g c =
@@ -85,8 +82,8 @@ returns g c =
     let v = g.met.S.TypeMatcherAlloc.granted store in
     let t = c.args.t in
     let s = start rows w sh limit ns t (fine_of c.args.types.now) c.requires.stands v (room_of limit rows ns t v c.requires.room) in
-    let e = ended rows w sh limit (execs sh (code rows w t) (state ns [])) _ (vec_items c.loop-task.scratch.tasks) c.in-default.ensures.tasks.0 c.loop-task.invariant.1 in
-    let made = root_is (execs sh (code rows w t) (state ns [])) (g.S.TypeMatcherAlloc.nodes c.loop-task.store) (vec_items c.loop-task.scratch.results) (vec_items c.pop-2.new.self) c.in-Some-pop.n s.root.0 e s.root.1 (sym c.in-default.ensures.results ∙ c.in-Some-pop.ensures.items) in
+    let e = ended rows w sh limit (execs sh (code rows w t) (state ns [])) _ (vec_items c.loop-task.scratch.tasks) c.in_default.ensures.tasks.0 c.loop-task.invariant.1 in
+    let made = root_is (execs sh (code rows w t) (state ns [])) (g.S.TypeMatcherAlloc.nodes c.loop-task.store) (vec_items c.loop-task.scratch.results) (vec_items c.pop-2.new.self) c.in-Some-pop.n s.root.0 e s.root.1 (sym c.in_default.ensures.results ∙ c.in-Some-pop.ensures.items) in
     let is = made ∙ code_writes sh rows w (fine_of c.args.types.now) t c.requires.stands ns in
     record {
       nodes = ap (λ (x : State). x.nodes) is;

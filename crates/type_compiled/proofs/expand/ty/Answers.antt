@@ -4,4 +4,4 @@ use Rattle.compiling.specs.Tasks.{expand_union}
 use Rattle.type_compiled.proofs.expand.ty.Goals as goal
 
 pub returns : goal.returns
-returns c = c.union-matcher.ensures ∙ ap (expand_union (rows_of c.args.types.now) c.args.t) c.width-of.ensures
+returns c = c.union_matcher.ensures ∙ ap (expand_union (rows_of c.args.types.now) c.args.t) c.width_of.ensures

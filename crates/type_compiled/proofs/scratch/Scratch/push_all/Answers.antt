@@ -1,4 +1,4 @@
-use Rattle.std.proofs.Common.{◌≡◌, ◌++◌, vec_items, sym, ap, ◌∙◌}
+use Rattle.std.proofs.Common.{◌++◌, vec_items, sym, ap, ◌∙◌}
 use Rattle.compiling.specs.Tasks.{listed}
 use Rattle.compiling.proofs.Takes.{push2, push3}
 use Rattle.type_compiled.proofs.scratch.Scratch.push_all.Goals as goal

@@ -1,8 +1,7 @@
-use Rattle.std.proofs.Common.{◌≡◌, List, ◌++◌, vec_items, vec_len, sym, refl, ap, ◌∙◌, ap₂, arith}
+use Rattle.std.proofs.Common.{◌++◌, vec_items, sym, refl, ap, ◌∙◌, arith}
 use Rattle.typing.specs.Held.{rows_of}
 use Rattle.compiling.specs.Code.{state}
 use Rattle.compiling.specs.Tasks.{listed}
-use Rattle.compiling.specs.declared.tasks.Task.{Task}
 use Rattle.compiling.proofs.Takes.{still, moved, none_more, ready_step}
 use Rattle.type_compiled.proofs.scratch.Scratch.turn.Goals as goal
 
@@ -19,10 +18,10 @@ step-requires g c =
     let r = ready_step (g.S.TypeMatcherAlloc.limit c.args.store.now) c.args.task c.in-Step.op (state (g.S.TypeMatcherAlloc.nodes c.args.store.now) (vec_items c.args.self.now.results)) c.in-Step.is c.requires.ready in
     record { grants = r.0; room = omega (arith, r.1, c.args.self.now.results.ok.0) }
 
-pub returns-in-default : goal.returns-in-default
-returns-in-default g c =
+pub returns-in_default : goal.returns-in_default
+returns-in_default g c =
     record {
-      tasks = c.push-all.ensures.tasks ∙ ap (λ e. vec_items c.args.self.now.tasks ++ listed e) c.expanded.ensures;
-      state = ap (λ rs. state (g.S.TypeMatcherAlloc.nodes c.args.store.now) rs) c.push-all.ensures.results ∙ sym (still g.S.TypeMatcherAlloc.sharing c.args.task _ c.in-default.not-Step);
+      tasks = c.push_all.ensures.tasks ∙ ap (λ e. vec_items c.args.self.now.tasks ++ listed e) c.expanded.ensures;
+      state = ap (λ rs. state (g.S.TypeMatcherAlloc.nodes c.args.store.now) rs) c.push_all.ensures.results ∙ sym (still g.S.TypeMatcherAlloc.sharing c.args.task _ c.in_default.not-Step);
       limit = refl;
     }
