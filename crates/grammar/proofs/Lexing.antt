@@ -1,10 +1,10 @@
 -- Laws of `items`. Assumes nothing.
-use Rattle.std.proofs.Common.{◌≡◌, ℕ, zero, suc, ◌+◌, ◌-◌, ◌<◌, ◌≤◌, Bool, true, false, cond, eqb, ◌⊎◌, List, [], ◌∷◌, length, get_or, take, drop, sym, refl, ap, ◌∙◌, subst, inl, inr, ⊎_elim, arith, drop-cons}
+use Rattle.std.proofs.Common.{◌≡◌, ℕ, zero, suc, ◌+◌, ◌-◌, ◌<◌, ◌≤◌, true, false, List, [], ◌∷◌, length, get_or, take, drop, sym, refl, ap, ◌∙◌, subst, ⊎_elim, arith, drop-cons}
 use Rattle.std.proofs.lemmas.List.{drop_all}
 use Rattle.std.proofs.lemmas.Bool.{cases_lt, true≢false}
 use Rattle.std.proofs.lemmas.Bool.Decides.{nat_tests}
 use Rattle.grammar.specs.Lexed.{Ahead}
-use Rattle.grammar.specs.Items.{Item, word, bar, left, right, comma, Placed, at, Role, space, mark, letter, role, is_letter_lem, starts_word, grown, placed, items, from}
+use Rattle.grammar.specs.Items.{Item, word, at, Role, space, mark, letter, role, is_letter_lem, starts_word, grown, placed, items, from}
 
 pub over : (s : List ℕ) (i : ℕ) → length s ≤ i → from s i ≡ []
 unfolding items

@@ -1,13 +1,12 @@
 -- Where the machine stops is where the fault is. Assumes nothing.
-use Rattle.std.proofs.Common.{◌≡◌, ℕ, Bool, true, false, cond, ◌⊎◌, List, [], ◌∷◌, ◌++◌, map, Some, None, codes, Option, sym, refl, ap, ◌∙◌, subst, inl, inr, ⊎_elim, append_assoc, append-nil, arith}
+use Rattle.std.proofs.Common.{◌≡◌, ℕ, Bool, true, false, cond, ◌⊎◌, List, [], ◌∷◌, ◌++◌, Some, None, codes, Option, sym, refl, ap, ◌∙◌, subst, inl, inr, append_assoc, append-nil, arith}
 use Rattle.std.proofs.lemmas.Bool.{true≢false}
-use Rattle.grammar.specs.declared.words.Class.{Class}
 use Rattle.grammar.specs.declared.words.Class.TheVariants.{Bare}
 use Rattle.grammar.specs.declared.stages.Stage.{Stage}
 use Rattle.grammar.specs.declared.stages.Stage.TheVariants.{Only, Key, Value, First, Second, Later}
-use Rattle.grammar.specs.Items.{Item, word, bar, left, right, comma, Placed, at, item, calm}
+use Rattle.grammar.specs.Items.{Item, word, bar, left, right, comma, Placed, at, calm}
 use Rattle.grammar.specs.Grammar.{Valid, Viable, seen, Wrong, Early}
-use Rattle.grammar.specs.Machine.{class, known, Sym, txt, bars, opens, arg, rest, shut, Stack, named, dotted, feed, ends, fault, or_else}
+use Rattle.grammar.specs.Machine.{class, known, txt, bars, opens, arg, rest, shut, Stack, named, dotted, feed, ends, fault, or_else}
 use Rattle.grammar.proofs.Theory.{on_some, takes, takes_bars, valid_taken, taken_valid}
 
 abbrev int : List ℕ

@@ -1,19 +1,18 @@
 -- The word and the class that the reader finds are those of the grammar. Assumes nothing.
-use Rattle.std.proofs.Common.{◌≡◌, ℕ, suc, ◌+◌, ◌-◌, ◌*◌, ◌^◌, ◌<◌, ◌≤◌, Bool, true, false, cond, not, ◌&&◌, ◌||◌, eqb, leb, ◌⊎◌, List, [], ◌∷◌, ◌++◌, length, get_or, take, drop, Some, None, codes, decimal, Decides, Option, sym, refl, ap, ◌∙◌, subst, inl, inr, ⊎_elim, arith, take-append-drop, drop-cons, pow-add, rules}
+use Rattle.std.proofs.Common.{◌≡◌, ℕ, nat_eq, suc, ◌+◌, ◌-◌, ◌*◌, ◌^◌, ◌<◌, ◌≤◌, Bool, true, false, cond, not, ◌&&◌, leb, ◌⊎◌, List, [], ◌∷◌, ◌++◌, length, get_or, take, drop, Some, None, codes, decimal, Option, sym, refl, ap, ◌∙◌, inl, inr, ⊎_elim, arith, take-append-drop, drop-cons, pow-add, rules}
 use Rattle.std.specs.Char.{is_ascii_digit}
-use Rattle.std.specs.Cmp.Lexicographic.{Matches}
+use Rattle.std.specs.Cmp.Lexicographic.{pointwise}
 use Rattle.std.proofs.lemmas.List.{drop_all}
-use Rattle.std.proofs.lemmas.Bool.Decides.{same_from_decides, Decides-eqb}
 use Rattle.std.specs.Str.{bytes_eq, all_ascii_digits}
-use Rattle.std.proofs.lemmas.Slice.Eq.{bytes_eq-Decides, slice_eq-Decides}
+use Rattle.std.proofs.lemmas.Slice.Eq.{bytes_eq-Decides}
 use Rattle.std.proofs.lemmas.Fmt.{digits_decimal, digits_value-decimal, length-decimal-le, decimal_nonempty, first_decimal, decimal_digit, decimal-digits_value}
 use Rattle.std.proofs.lemmas.Str.Parse.{IsNumeralModel, numerals_by_fold, tells_all_ascii_digits}
-use Rattle.std.proofs.lemmas.Bool.{and_left, and_right, and_cases, not-false, not_from_true, lt-leb, and_parts, and_from, or_cases, or_left, or_right, leb-true, eqb-true, eqb-false, not_true, le-leb, eq-eqb, ne_eqb, not_from_false, cond-true, cond-false, cases_Bool, cases_lt, true≢false}
+use Rattle.std.proofs.lemmas.Bool.{and_left, and_right, and_cases, not-false, not_from_true, lt-leb, and_parts, and_from, leb-true, eqb-true, eqb-false, not-true, le-leb, eq-eqb, ne_eqb, not_from_false, cond-true, cond-false, cases_lt}
 use Rattle.grammar.specs.declared.words.Class.{Class}
 use Rattle.grammar.specs.declared.words.Class.TheVariants.{Bare, One, Two, Many, Dots, Nothing}
 use Rattle.grammar.specs.declared.words.Word.{Word}
 use Rattle.grammar.specs.declared.words.Word.TheVariants.{Host, Custom}
-use Rattle.grammar.specs.Names.{Row, row, table, Listed, Numbered, Means, takes, Called}
+use Rattle.grammar.specs.Names.{Row, row, table, Listed, Numbered, Means, Called}
 use Rattle.grammar.specs.Machine.{class, class_by, known, look_up, number, with_number, numbered, zero_first_lem, is_number, read_on}
 
 own : IsNumeralModel (λ ds. all_ascii_digits ds ≡ true) (read_on 0)
@@ -28,7 +27,7 @@ number_from ds e =
     let f = and_parts _ _ b.1 in
     let g = and_parts _ _ f.1 in
     let small = leb-true (read_on 0 ds) 65535 g.1 in
-    let front : get_or ds 0 0 ≡ 48 → length ds ≡ 1 = λ z. ⊎_elim (λ x. absurd (eqb-false (get_or ds 0 0) 48 x z)) (λ x. eqb-true (length ds) 1 (not-false _ x)) (and_cases _ _ (not_true _ f.0)) in
+    let front : get_or ds 0 0 ≡ 48 → length ds ≡ 1 = λ z. ⊎_elim (λ x. absurd (eqb-false (get_or ds 0 0) 48 x z)) (λ x. eqb-true (length ds) 1 (not-false _ x)) (and_cases _ _ (not-true _ f.0)) in
     (omega arith, sym (decimal-digits_value own ds g.0 (leb-true 1 (length ds) a.0) front (omega arith)))
 
 number_to : (n : ℕ) → n < 65536 → is_number (decimal n) ≡ true
@@ -197,6 +196,6 @@ module _ (ds : List ℕ) (i n : ℕ) (past : length ds ≤ i) (a : 1 ≤ length 
       let r = digits_read ds i n past a b z e v in
       sym (cond-true (is_number ds) (Some (read_on 0 ds)) None (r.0 ∙ le-leb n 65535 h) ∙ ap Some r.1)
 
--- the two prefixes
-pub tested : (w v : List ℕ) {r b : Bool} → Matches (λ (x y : ℕ) (t : Bool). Decides t (x ≡ y)) w v r → r ≡ b → bytes_eq w v ≡ b
-tested w v {r} m e = same_from_decides (bytes_eq w v) r (bytes_eq-Decides w v) (slice_eq-Decides Decides-eqb w v r m) ∙ e
+-- `==` of two slices, of which the second is v
+pub tested : (w v : List ℕ) {u : List ℕ} {r b : Bool} → u ≡ v → r ≡ pointwise nat_eq w u → r ≡ b → bytes_eq w v ≡ b
+tested w v s m e = sym (ap (bytes_eq w) s) ∙ sym m ∙ e

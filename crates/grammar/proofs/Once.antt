@@ -1,7 +1,7 @@
 -- A text has at most one fault, and none if it is accepted. Assumes nothing.
-use Rattle.std.proofs.Common.{◌≡◌, ℕ, ◌<◌, ◌≤◌, ◌⊎◌, List, [], ◌∷◌, ◌++◌, length, sym, refl, ap, ◌∙◌, subst, inl, inr, ⊎_elim, append-nil, arith}
-use Rattle.grammar.specs.Items.{Item, Placed, at, item, items}
-use Rattle.grammar.specs.Grammar.{Valid, Viable, seen, Wrong, Early, Accepted, FaultAt, OneFault, Faultless}
+use Rattle.std.proofs.Common.{◌≡◌, ℕ, ◌⊎◌, List, [], ◌∷◌, ◌++◌, length, sym, refl, ap, ◌∙◌, subst, inl, inr, ⊎_elim, append-nil, arith}
+use Rattle.grammar.specs.Items.{Item, Placed, at, items}
+use Rattle.grammar.specs.Grammar.{Valid, Viable, seen, Wrong, Early, OneFault, Faultless}
 
 head_is : {A : Type 0} (x y : A) (a b : List A) → x ∷ a ≡ y ∷ b → x ≡ y
 head_is x y a b e = cc

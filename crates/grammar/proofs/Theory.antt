@@ -1,14 +1,14 @@
 -- The stack machine accepts just the valid texts, and stops just where no valid text goes on. Assumes nothing.
-use Rattle.std.proofs.Common.{◌≡◌, ℕ, Bool, true, false, cond, ◌⊎◌, List, [], ◌∷◌, ◌++◌, map, Some, None, codes, Option, sym, refl, ap, ◌∙◌, subst, inl, inr, ⊎_elim}
+use Rattle.std.proofs.Common.{◌≡◌, ℕ, Bool, true, false, cond, ◌⊎◌, List, [], ◌∷◌, Some, None, Option, sym, refl, ap, ◌∙◌, subst, inl, inr, ⊎_elim}
 use Rattle.std.proofs.lemmas.Bool.{true≢false}
 use Rattle.grammar.specs.declared.words.Class.{Class}
 use Rattle.grammar.specs.declared.words.Class.TheVariants.{Bare, One, Two, Many, Dots, Nothing}
 use Rattle.grammar.specs.declared.stages.Stage.{Stage}
 use Rattle.grammar.specs.declared.stages.Stage.TheVariants.{Only, Key, Value, First, Second, Later}
-use Rattle.grammar.specs.Items.{Item, word, bar, left, right, comma, Placed, at, item, calm, still}
-use Rattle.grammar.specs.Grammar.{Name, Text, last, join, Alt, alone, one, two, none, some, run, More, end, also, text, alt, more, Valid, Viable, seen}
+use Rattle.grammar.specs.Items.{Item, word, bar, left, right, comma, calm, still}
+use Rattle.grammar.specs.Grammar.{Name, Text, last, join, Alt, alone, one, two, none, some, run, More, end, also, text, alt, more, Valid}
 use Rattle.grammar.proofs.Names.{called, to_bare, to_one, to_two, to_many, to_dots}
-use Rattle.grammar.specs.Machine.{class, Sym, txt, bars, opens, arg, rest, shut, Stack, named, begins, dotted, argues, goes, closes, barred, opened, feed, ends, fault, or_else, after, may_close, may_comma}
+use Rattle.grammar.specs.Machine.{class, txt, bars, opens, arg, rest, shut, Stack, named, begins, dotted, argues, goes, closes, barred, opened, feed, ends, after, may_close, may_comma}
 
 abbrev pub on_some : (Stack → Bool) → Option Stack → Bool
 on_some f (Some k) = f k

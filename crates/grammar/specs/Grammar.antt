@@ -1,6 +1,5 @@
 -- The grammar of an annotation: trees, and how each is written. Assumes nothing.
 use Rattle.std.specs.Prelude.{◌≡◌, ℕ, ◌<◌, ◌≤◌, ◌⊎◌, List, [], ◌∷◌, ◌++◌, map, length}
-use Rattle.grammar.specs.declared.words.Class.{Class}
 use Rattle.grammar.specs.declared.words.Class.TheVariants.{Bare, One, Two, Many, Dots}
 use Rattle.grammar.specs.Items.{Item, word, bar, left, right, comma, Placed, at, item, items}
 use Rattle.grammar.specs.Names.{Called}

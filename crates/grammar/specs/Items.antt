@@ -1,5 +1,5 @@
 -- The words and marks of a text, each with the byte where it starts. Assumes nothing.
-use Rattle.std.specs.Prelude.{◌≡◌, ℕ, suc, ◌+◌, Bool, true, false, cond, List, [], ◌∷◌, drop, ◌==◌}
+use Rattle.std.specs.Prelude.{ℕ, suc, Bool, true, false, cond, List, [], ◌∷◌, drop, ◌==◌}
 
 -- a word, by its bytes, or one of the four marks
 pub data Item : Type 0 where

@@ -3,7 +3,7 @@ use Rattle.std.specs.Prelude.{◌≡◌, ℕ, ◌<◌, ◌≤◌, List, [], ◌�
 use Rattle.grammar.specs.declared.tokens.Token.{Token}
 use Rattle.grammar.specs.declared.tokens.Token.TheVariants.{Name, Bar, Open, Close, Comma, End}
 use Rattle.grammar.specs.declared.tokens.Lexed.{Lexed}
-use Rattle.grammar.specs.Items.{Item, word, bar, left, right, comma, Placed, at, from}
+use Rattle.grammar.specs.Items.{Item, word, bar, left, right, comma, at, from}
 
 -- the items from i on begin with x, at start, and go on at end
 pub record Ahead (s : List ℕ) (i : ℕ) (x : Item) (start end : ℕ) : Type 0 where

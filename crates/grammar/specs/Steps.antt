@@ -1,5 +1,5 @@
 -- What the two decisions in an argument mean to the machine. Assumes nothing.
-use Rattle.std.specs.Prelude.{◌≡◌, ℕ, Bool, true, false, cond, List, [], ◌∷◌, Some, None, Option}
+use Rattle.std.specs.Prelude.{◌≡◌, ℕ, cond, List, ◌∷◌, Some, None, Option}
 use Rattle.grammar.specs.declared.tokens.Token.{Token}
 use Rattle.grammar.specs.declared.tokens.Token.TheVariants.{Name, Bar, Open, Close, Comma, End}
 use Rattle.grammar.specs.declared.stages.Stage.{Stage}
@@ -7,8 +7,8 @@ use Rattle.grammar.specs.declared.stages.Entry.{Entry}
 use Rattle.grammar.specs.declared.stages.Entry.TheVariants.{Shut, Dotted, Plain}
 use Rattle.grammar.specs.declared.stages.Follow.{Follow}
 use Rattle.grammar.specs.declared.stages.Follow.TheVariants.{Ends, Goes, Wrong}
-use Rattle.grammar.specs.Items.{Item, word, bar, left, right, comma, Placed}
-use Rattle.grammar.specs.Machine.{Sym, txt, arg, rest, shut, Stack, after, feed, ends, fault, or_else}
+use Rattle.grammar.specs.Items.{word, bar, left, right, comma, Placed}
+use Rattle.grammar.specs.Machine.{txt, arg, rest, shut, Stack, after, feed, ends, fault, or_else}
 
 -- the fault from a token on: it starts at p, the items is follow it, and n is the text's length
 abbrev pub onward : Token → ℕ → ℕ → List Placed → Stack → Option ℕ

@@ -1,5 +1,6 @@
 // The grammar of annotations: which texts are valid, and where any other goes wrong.
 #![tactic(auto)]
+
 mod readers;
 mod stages;
 pub mod text;

@@ -97,33 +97,33 @@ fn numbered_word(word: &[u8]) -> Option<Word>
 pub fn word_of(word: &[u8]) -> Option<Word>
     ensures { result ≡ known word.now }
 {
-    if word == b"int" {
+    if word == b"int".as_slice() {
         Some(Word::Int)
-    } else if word == b"bool" {
+    } else if word == b"bool".as_slice() {
         Some(Word::Boolean)
-    } else if word == b"str" {
+    } else if word == b"str".as_slice() {
         Some(Word::Str)
-    } else if word == b"None" {
+    } else if word == b"None".as_slice() {
         Some(Word::NoneType)
-    } else if word == b"type" {
+    } else if word == b"type".as_slice() {
         Some(Word::Kind)
-    } else if word == b"typing.Any" {
+    } else if word == b"typing.Any".as_slice() {
         Some(Word::Any)
-    } else if word == b"typing.Never" {
+    } else if word == b"typing.Never".as_slice() {
         Some(Word::Never)
-    } else if word == b"typing.Callable" {
+    } else if word == b"typing.Callable".as_slice() {
         Some(Word::Callable)
-    } else if word == b"list" {
+    } else if word == b"list".as_slice() {
         Some(Word::ListOf)
-    } else if word == b"set" {
+    } else if word == b"set".as_slice() {
         Some(Word::SetOf)
-    } else if word == b"typing.Iterable" {
+    } else if word == b"typing.Iterable".as_slice() {
         Some(Word::IterableOf)
-    } else if word == b"dict" {
+    } else if word == b"dict".as_slice() {
         Some(Word::DictOf)
-    } else if word == b"tuple" {
+    } else if word == b"tuple".as_slice() {
         Some(Word::TupleOf)
-    } else if word == b"..." {
+    } else if word == b"...".as_slice() {
         Some(Word::Ellipsis)
     } else {
         numbered_word(word)

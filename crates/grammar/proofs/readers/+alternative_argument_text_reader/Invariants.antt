@@ -8,5 +8,5 @@ decreases-alternative l = 3 * (length l.text.now - l.at)
 abbrev pub decreases-argument : goal.decreases-argument
 decreases-argument l = 3 * (length l.text.now - l.at) + 2
 
-abbrev pub decreases-text-reader : goal.decreases-text-reader
-decreases-text-reader l = 3 * (length l.text.now - l.at) + 1
+abbrev pub decreases-text_reader : goal.decreases-text_reader
+decreases-text_reader l = 3 * (length l.text.now - l.at) + 1

@@ -1,4 +1,4 @@
-use Rattle.std.proofs.Common.{◌≡◌, suc, ◌+◌, get_or, sym, refl, ap, ◌∙◌, arith}
+use Rattle.std.proofs.Common.{◌≡◌, suc, ◌+◌, get_or, refl, ap, ◌∙◌, arith}
 use Rattle.grammar.specs.Items.{bar, left, right, comma, from}
 use Rattle.grammar.proofs.Lexing.{over, at_space, mark_ahead, word_ahead, role_letter}
 use Rattle.grammar.proofs.tokens.next_token.Goals as goal
@@ -24,10 +24,10 @@ returns-in-93 c = mark_ahead c.args.text.now c.args.at c.loop-start.start 93 rig
 pub returns-in-44 : goal.returns-in-44
 returns-in-44 c = mark_ahead c.args.text.now c.args.at c.loop-start.start 44 comma c.loop-start.invariant.0 (omega arith) c.loop-start.invariant.1 c.in-44.is refl
 
-pub returns-in-default : goal.returns-in-default
-returns-in-default c =
+pub returns-in_default : goal.returns-in_default
+returns-in_default c =
     let s = c.args.text.now in
     let b = get_or s c.loop-start.start 0 in
-    word_ahead s c.args.at c.loop-start.start c.word-end-end.result (omega arith) (omega arith) (omega arith) c.loop-start.invariant.1
+    word_ahead s c.args.at c.loop-start.start c.word_end-end.result (omega arith) (omega arith) (omega arith) c.loop-start.invariant.1
     (role_letter b (λ e. omega arith) (λ e. omega arith) (λ e. omega arith) (λ e. omega arith) (λ e. omega arith))
-    c.word-end-end.ensures.letters c.word-end-end.ensures.stops
+    c.word_end-end.ensures.letters c.word_end-end.ensures.stops

@@ -1,4 +1,4 @@
-use Rattle.std.proofs.Common.{◌≡◌, sym, refl, ap, ◌∙◌}
+use Rattle.std.proofs.Common.{ap, ◌∙◌}
 use Rattle.grammar.specs.Machine.{class, class_by}
 use Rattle.grammar.proofs.words.class_of.Goals as goal
 
