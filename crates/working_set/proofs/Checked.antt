@@ -1,5 +1,5 @@
 -- What running an annotation's root answers is what a check says. Assumes nothing.
-use Rattle.std.proofs.Common.{◌≡◌, ℕ, Bool, true, false, cond, ◌&&◌, ltb, List, length, Ok, Err, Result, sym, refl, ap, ◌∙◌, subst, arith}
+use Rattle.std.proofs.Common.{◌≡◌, ℕ, Bool, true, false, cond, ◌&&◌, ltb, length, Ok, Err, Result, refl, ap, ◌∙◌, arith}
 use Rattle.values.specs.declared.refusal.Refusal.{Refusal}
 use Rattle.values.specs.declared.refusal.Refusal.TheVariants.{NoNode, NoValue}
 use Rattle.custom.specs.Customs.{Custom}
@@ -7,7 +7,7 @@ use Rattle.custom.specs.Worlds.{world}
 use Rattle.matcher.specs.Meaning.{accepts}
 use Rattle.matching.specs.Verdicts.{verdict}
 use Rattle.type_compiled.specs.Compiled.{annotation_says}
-use Rattle.runs.specs.Acts.{Answer, says, refused, check_told}
+use Rattle.runs.specs.Acts.{says, refused, check_told}
 use Rattle.runs.specs.States.{State, annotation_in, check_says}
 
 told_by : (a b d x : Bool) → a ≡ true → check_told (cond b (cond d (Ok x) (Err NoValue)) (Err NoNode)) ≡ cond (a && b) (cond d (says x) (refused 3)) (refused 2)

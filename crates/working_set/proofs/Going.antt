@@ -3,8 +3,7 @@ use Rattle.std.proofs.Common.{◌≡◌, ℕ, ◌+◌, ◌≤◌, Bool, List, []
 use Rattle.values.specs.Cells.{Cell}
 use Rattle.custom.specs.Customs.{Custom, Open}
 use Rattle.matcher.specs.Nodes.{Node}
-use Rattle.runs.specs.Acts.{Act, Answer}
-use Rattle.runs.specs.States.{State, OutcomeOf}
+use Rattle.runs.specs.States.{OutcomeOf}
 use Rattle.runs.proofs.Sofar.{Sofar, sofar_none, sofar_more, ran}
 use Rattle.working_set.specs.Words.{act, told}
 use Rattle.working_set.specs.Sets.{state_of, Effect}

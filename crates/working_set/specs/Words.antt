@@ -1,5 +1,5 @@
 -- What calls and outcomes mean. Assumes nothing.
-use Rattle.std.specs.Prelude.{ℕ, Ok, Err, vec_items, Result}
+use Rattle.std.specs.Prelude.{Ok, Err, vec_items, Result}
 use Rattle.values.specs.Lives.{cell}
 use Rattle.values.specs.Refusals.{number}
 use Rattle.values.specs.Values.{numbers}

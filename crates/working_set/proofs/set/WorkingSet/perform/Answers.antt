@@ -1,4 +1,4 @@
-use Rattle.std.proofs.Common.{◌≡◌, ◌+◌, ◌<◌, List, [], ◌∷◌, ◌++◌, length, take, vec_items, vec_capacity, sym, refl, ap, ◌∙◌, subst, arith}
+use Rattle.std.proofs.Common.{◌≡◌, ◌+◌, ◌<◌, [], ◌∷◌, ◌++◌, length, take, vec_items, vec_capacity, sym, refl, ap, ◌∙◌, subst, arith}
 use Rattle.std.proofs.lemmas.List.{take_more, take_all}
 use Rattle.working_set.proofs.Going.{Going, going_none, going_more, made_all}
 use Rattle.working_set.proofs.set.WorkingSet.perform.Goals as goal
@@ -23,14 +23,14 @@ loop-call-preserved g c =
     let i = c.loop-call.call-index in
     let call = c.call-item.result in
     let within : i < length c.args.calls.now = c.loop-call-test.true in
-    let next = going_more cells nodes limit shares custom (take i c.args.calls.now) c.args.self.now c.loop-call.self c.make-outcome.new.self (vec_items c.args.outcomes.now) (vec_items c.loop-call.outcomes) (vec_items c.push-reserved.new.self) call c.make-outcome.result inv.4 c.make-outcome.ensures c.push-reserved.ensures.items in
+    let next = going_more cells nodes limit shares custom (take i c.args.calls.now) c.args.self.now c.loop-call.self c.make-outcome.new.self (vec_items c.args.outcomes.now) (vec_items c.loop-call.outcomes) (vec_items c.push_reserved.new.self) call c.make-outcome.result inv.4 c.make-outcome.ensures c.push_reserved.ensures.items in
     let calls : take i c.args.calls.now ++ (call ∷ []) ≡ take (i + 1) c.args.calls.now =
     sym (take_more c.args.calls.now i call within ∙ ap (λ y. take i c.args.calls.now ++ (y ∷ [])) (sym c.call-item.is)) in (
       omega arith,
-      omega (arith, c.push-reserved.ensures.len, inv.1),
+      omega (arith, c.push_reserved.ensures.len, inv.1),
       inv.2,
-      c.push-reserved.ensures.capacity ∙ inv.3,
-      subst (λ cs. Going cells nodes limit shares custom cs c.args.self.now c.make-outcome.new.self (vec_items c.args.outcomes.now) (vec_items c.push-reserved.new.self)) calls next,
+      c.push_reserved.ensures.capacity ∙ inv.3,
+      subst (λ cs. Going cells nodes limit shares custom cs c.args.self.now c.make-outcome.new.self (vec_items c.args.outcomes.now) (vec_items c.push_reserved.new.self)) calls next,
     )
 
 pub returns : goal.returns
