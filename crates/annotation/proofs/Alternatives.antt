@@ -1,5 +1,5 @@
 -- The steps of the alternative's reader. Assumes nothing.
-use Rattle.std.proofs.Common.{◌≡◌, ℕ, ◌⊎◌, List, [], ◌∷◌, ◌++◌, length, take, drop, Some, None, Ok, Err, Option, Result, sym, refl, ap, ◌∙◌, subst, inl, inr, ⊎_elim, arith, Bor}
+use Rattle.std.proofs.Common.{◌≡◌, ℕ, ◌⊎◌, List, [], ◌∷◌, ◌++◌, length, take, drop, Some, None, Ok, Err, sym, refl, ap, ◌∙◌, subst, inl, inr, ⊎_elim, arith, Bor}
 use lib.Seq.{take-append_seam, drop-append_seam}
 use Rattle.membership.specs.Rows.{Row}
 use Rattle.grammar.specs.declared.words.Word.{Word}
@@ -17,10 +17,9 @@ use Rattle.annotation.specs.declared.calls.Form.TheVariants.{Fixed, Open as Open
 use Rattle.annotation.specs.declared.fault.Placed.{Placed}
 use Rattle.annotation.specs.declared.fault.TextFault.{TextFault}
 use Rattle.annotation.specs.declared.fault.TextFault.TheVariants.{Outside, Call}
-use Rattle.annotation.specs.declared.builders.Built.{Built}
 use Rattle.annotation.specs.declared.builders.Closed.{Closed}
-use Rattle.annotation.specs.Evaluated.{State, state, first, past, Came, made, turned, on_made, calls, word_in, text_comes, alt_comes, more_come, starts_of}
-use Rattle.annotation.specs.Building.{at_byte, Args, shut, dots, final, further, args, args_come, Fails, PlacedAs, AltBuilt, ArgsBuilt}
+use Rattle.annotation.specs.Evaluated.{State, state, first, past, Came, on_made, calls, word_in, text_comes, alt_comes, more_come, starts_of}
+use Rattle.annotation.specs.Building.{at_byte, Args, shut, dots, final, further, args, args_come, PlacedAs, AltBuilt, ArgsBuilt}
 use Rattle.annotation.proofs.Fronts.{apart, ahead_rest, token_is, Stands, left_token, word_of_is, past_word, past_mark, fails_as}
 
 -- a text and further ones as arguments

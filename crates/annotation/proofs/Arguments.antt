@@ -1,5 +1,5 @@
 -- The steps of the arguments' reader. Assumes nothing.
-use Rattle.std.proofs.Common.{◌≡◌, ℕ, ◌⊎◌, List, [], ◌∷◌, ◌++◌, None, Ok, Err, Result, sym, refl, ap, ◌∙◌, subst, inl, inr, ⊎_elim, append_assoc, append-nil, arith}
+use Rattle.std.proofs.Common.{◌≡◌, ℕ, List, [], ◌∷◌, ◌++◌, None, Ok, Err, Result, sym, refl, ap, ◌∙◌, inl, inr, append_assoc, append-nil, arith}
 use Rattle.membership.specs.Rows.{Row}
 use Rattle.grammar.specs.declared.words.Class.{Class}
 use Rattle.grammar.specs.declared.words.Class.TheVariants.{Bare, One, Two, Many, Dots, Nothing}
@@ -8,19 +8,19 @@ use Rattle.grammar.specs.declared.tokens.Token.TheVariants.{Name as Named, Bar, 
 use Rattle.grammar.specs.Items.{Item, word, bar, left, right, comma, from}
 use Rattle.grammar.specs.Names.{Called}
 use Rattle.grammar.specs.Machine.{class}
-use Rattle.grammar.specs.Grammar.{Name, Text, text, seen}
+use Rattle.grammar.specs.Grammar.{Name, seen}
 use Rattle.grammar.specs.Lexed.{Ahead, NextBy}
 use Rattle.grammar.proofs.Names.{called}
 use Rattle.grammar.proofs.Theory.{text_head}
 use Rattle.annotation.specs.declared.calls.Form.{Form}
-use Rattle.annotation.specs.declared.calls.Form.TheVariants.{Fixed, Open as Opened}
+use Rattle.annotation.specs.declared.calls.Form.TheVariants.{Fixed}
 use Rattle.annotation.specs.declared.fault.TextFault.{TextFault}
 use Rattle.annotation.specs.declared.fault.TextFault.TheVariants.{Outside, Call}
 use Rattle.annotation.specs.declared.builders.Built.{Built}
 use Rattle.annotation.specs.declared.builders.Closed.{Closed}
 use Rattle.annotation.specs.declared.builders.Entry.{Entry}
 use Rattle.annotation.specs.declared.builders.Entry.TheVariants.{Shut, Dotted, Plain}
-use Rattle.annotation.specs.Evaluated.{State, state, past, Came, on_made, text_comes, starts_of}
+use Rattle.annotation.specs.Evaluated.{State, state, Came, on_made, text_comes}
 use Rattle.annotation.specs.Building.{at_byte, Args, shut, dots, final, further, args, args_come, entry_by, entry, Fails, TextBuilt, ArgsBuilt, Closing}
 use Rattle.annotation.proofs.Fronts.{apart, ahead_rest, token_is, Stands, right_token, comma_token, word_of_is, past_word, past_mark, fails_on, fails_as}
 

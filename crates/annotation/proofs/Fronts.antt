@@ -1,14 +1,14 @@
 -- What a token says of the items ahead. Assumes nothing.
-use Rattle.std.proofs.Common.{◌≡◌, ℕ, ◌⊎◌, List, [], ◌∷◌, get_or, Some, None, Option, sym, refl, ap, ◌∙◌, subst, inl, inr, ⊎_elim, arith}
+use Rattle.std.proofs.Common.{◌≡◌, ℕ, List, [], ◌∷◌, get_or, sym, refl, ap, ◌∙◌, subst, arith}
 use Rattle.membership.specs.Rows.{Row}
 use Rattle.grammar.specs.declared.tokens.Token.{Token}
 use Rattle.grammar.specs.declared.tokens.Token.TheVariants.{Name, Bar, Open, Close, Comma, End}
-use Rattle.grammar.specs.Items.{Item, word, bar, left, right, comma, Placed, at, item, from, calm, still}
+use Rattle.grammar.specs.Items.{Item, word, bar, left, right, comma, from}
 use Rattle.grammar.specs.Grammar.{seen}
-use Rattle.grammar.specs.Lexed.{Ahead, Over, NextBy}
+use Rattle.grammar.specs.Lexed.{Ahead, NextBy}
 use Rattle.annotation.specs.declared.fault.TextFault.{TextFault}
 use Rattle.annotation.specs.declared.fault.TextFault.TheVariants.{Outside, Call}
-use Rattle.annotation.specs.Evaluated.{State, state, first, past, Came, made, turned, on_made, starts_of}
+use Rattle.annotation.specs.Evaluated.{State, state, first, past, Came, on_made, starts_of}
 use Rattle.annotation.specs.Building.{at_byte, Fails}
 
 pub head_is : {A : Type 0} (x y : A) (a b : List A) → x ∷ a ≡ y ∷ b → x ≡ y

@@ -1,12 +1,12 @@
 -- What the second pass makes of a whole text. Assumes nothing.
-use Rattle.std.proofs.Common.{◌≡◌, ℕ, List, [], ◌∷◌, None, Ok, Err, sym, refl, ap, ◌∙◌, subst, arith}
+use Rattle.std.proofs.Common.{◌≡◌, ℕ, List, [], ◌∷◌, None, Ok, Err, sym, refl, ap, ◌∙◌}
 use Rattle.membership.specs.Rows.{Row}
-use Rattle.grammar.specs.Items.{Item, Placed, at, item, items, from}
-use Rattle.grammar.specs.Grammar.{Text, text, seen, Accepted}
+use Rattle.grammar.specs.Items.{Placed, at, from}
+use Rattle.grammar.specs.Grammar.{seen, Accepted}
 use Rattle.annotation.specs.declared.fault.TextFault.{TextFault}
 use Rattle.annotation.specs.declared.fault.TextFault.TheVariants.{Outside, Call}
 use Rattle.annotation.specs.declared.builders.Built.{Built}
-use Rattle.annotation.specs.Evaluated.{state, made, starts_of, comes, ReadAs}
+use Rattle.annotation.specs.Evaluated.{state, made, starts_of, ReadAs}
 use Rattle.annotation.specs.Building.{TextBuilt}
 use Rattle.annotation.proofs.Fronts.{none_ahead}
 

@@ -1,20 +1,19 @@
 -- The steps of the text reader. Assumes nothing.
-use Rattle.std.proofs.Common.{◌≡◌, ℕ, List, [], ◌∷◌, Some, None, Ok, Err, Option, Result, sym, refl, ap, ◌∙◌, subst, arith}
-use Rattle.values.specs.Refusals.{number}
+use Rattle.std.proofs.Common.{◌≡◌, ℕ, List, ◌∷◌, Some, Ok, Err, Option, Result, sym, ap, ◌∙◌, subst, arith}
 use Rattle.membership.specs.Rows.{Row}
 use Rattle.grammar.specs.declared.tokens.Token.{Token}
 use Rattle.grammar.specs.declared.tokens.Token.TheVariants.{Bar}
 use Rattle.grammar.specs.Items.{Item, bar, from, calm}
-use Rattle.grammar.specs.Grammar.{Text, last, join, Alt, text, alt, seen}
+use Rattle.grammar.specs.Grammar.{last, join, Alt, text, alt, seen}
 use Rattle.grammar.specs.Lexed.{Ahead, NextBy}
 use Rattle.grammar.proofs.Theory.{alt_head, calm_still}
 use Rattle.annotation.specs.declared.fault.Placed.{Placed}
 use Rattle.annotation.specs.declared.fault.TextFault.{TextFault}
 use Rattle.annotation.specs.declared.fault.TextFault.TheVariants.{Call}
 use Rattle.annotation.specs.declared.builders.Built.{Built}
-use Rattle.annotation.specs.Evaluated.{State, state, first, Came, made, turned, on_made, joined, text_comes, alt_comes, starts_of}
-use Rattle.annotation.specs.Building.{at_byte, Fails, PlacedAs, Says, TextBuilt, AltBuilt}
-use Rattle.annotation.proofs.Fronts.{ahead_rest, token_is, bar_token, first_is, past_mark, fails_on, fails_as}
+use Rattle.annotation.specs.Evaluated.{state, first, made, on_made, joined, text_comes, alt_comes, starts_of}
+use Rattle.annotation.specs.Building.{at_byte, PlacedAs, Says, TextBuilt, AltBuilt}
+use Rattle.annotation.proofs.Fronts.{ahead_rest, token_is, bar_token, first_is, past_mark, fails_on}
 
 -- the alternative is refused
 pub text_breaks : (s : List ℕ) (i : ℕ) (b : Option ℕ) (t t₁ : List Row) (f : TextFault) → AltBuilt s i t t₁ (Err f) → TextBuilt s i b t t₁ (Err f)

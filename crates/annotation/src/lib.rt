@@ -1,5 +1,6 @@
 // The text of an annotation, read into a type.
 #![tactic(auto)]
+
 mod builders;
 pub mod calls;
 pub mod fault;
