@@ -1,5 +1,6 @@
 // The heaps and customs at their limits, a line for each case.
 #![tactic(auto)]
+
 mod nones;
 
 use custom::entries::{Mark, Range};
