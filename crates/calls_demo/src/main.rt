@@ -1,4 +1,5 @@
 #![tactic(auto)]
+
 mod lists;
 
 use custom::entries::Mark;

@@ -1,5 +1,6 @@
 // The nodes that annotations become, in a store that never shares and in one that shares. Custom 0 is a wildcard, custom 1 is not.
 #![tactic(auto)]
+
 use annotation::reader::Reader;
 use custom::entries::Mark;
 use custom::marks::Marks;

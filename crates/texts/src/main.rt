@@ -1,5 +1,6 @@
 // Reads records of a two-byte length, big-endian, and a text, and writes what each text comes to on a new table of types.
 #![tactic(auto)]
+
 ghost use Rattle.texts.specs.Spans.{Within};
 
 use annotation::reader::Reader;
