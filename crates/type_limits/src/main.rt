@@ -1,5 +1,6 @@
 // The table of types at its limits, a line for each case.
 #![tactic(auto)]
+
 use std::alloc::{AllocError, Global};
 use typing::types::Types;
 use values::refusal::Refusal;
