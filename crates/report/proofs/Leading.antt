@@ -1,21 +1,20 @@
 -- A text that is read, and a text that is entered, are calls on a working set. Assumes nothing.
-use Rattle.std.proofs.Common.{◌≡◌, ℕ, Bool, List, [], ◌∷◌, length, Some, None, Ok, Option, sym, refl, ap, ◌∙◌, subst}
+use Rattle.std.proofs.Common.{◌≡◌, ℕ, Bool, List, [], ◌∷◌, Some, None, Ok, Option, sym, refl, ap, subst}
 use Rattle.values.specs.Cells.{Cell}
 use Rattle.custom.specs.Customs.{Custom}
 use Rattle.membership.specs.Rows.{Alt as TypeAlt, plain, iter, callable, kind, list, tuple, tuple_of, dict, custom, set_of, Row, Outcome, granted, refused, union2}
-use Rattle.compiling.specs.Outcomes.{granted as compiled-to, entered}
 use Rattle.grammar.specs.declared.words.Word.{Word}
 use Rattle.grammar.specs.declared.words.Word.TheVariants.{Int, Boolean, Str, NoneType, Kind, Any, Never, Callable, ListOf, SetOf, IterableOf, DictOf, TupleOf, Host, Custom as CustomWord, Ellipsis}
 use Rattle.grammar.specs.Grammar.{Text, last, join, Alt, alone, one, two, none, some, run, More, end, also}
 use Rattle.annotation.specs.declared.calls.Form.{Form}
 use Rattle.annotation.specs.declared.calls.Form.TheVariants.{Fixed, Open}
 use Rattle.annotation.specs.Calls.{called, part}
-use Rattle.annotation.specs.Evaluated.{State, state, first, past, Came, made, turned, on_made, placed, calls, joined, word_in, text_comes, alt_comes, more_come, ReadAs}
+use Rattle.annotation.specs.Evaluated.{State, first, past, Came, made, turned, on_made, placed, calls, joined, word_in, text_comes, alt_comes, more_come, ReadAs}
 use Rattle.runs.specs.Acts.{Act, make_type, union_of, alloc_type}
-use Rattle.runs.specs.States.{State as SetState, with_rows, rows_after, made as made-type, after, after_entry, answer, entry}
+use Rattle.runs.specs.States.{State as SetState, with_rows, rows_after, made as made-type, after, after_entry, answer}
 use Rattle.runs.specs.Runs.{Reaches}
 use Rattle.runs.proofs.Sofar.{reaches_here, reaches_by, reaches_trans}
-use Rattle.report.specs.Entering.{State as Tables, Setting, Enters, EnterAll}
+use Rattle.report.specs.Entering.{State as Tables, Enters, EnterAll}
 use Rattle.report.specs.Held.{setting, set_over}
 
 module _ (c : Custom) (shares : Bool) where

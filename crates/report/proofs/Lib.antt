@@ -1,4 +1,6 @@
 mod Lists
+mod Stays
+mod Entered
 mod Leading
 mod Replies
-mod Answering
+mod RightAnswers

@@ -1,5 +1,5 @@
--- Lists that grow by one. Assumes nothing.
-use Rattle.std.proofs.Common.{◌≡◌, ℕ, zero, suc, ◌+◌, ◌<◌, List, [], ◌∷◌, ◌++◌, map, length, get_or, take, sym, refl, ap, ◌∙◌, append_assoc, append-nil, arith}
+-- Lists read place by place, and lists that grow by one. Assumes nothing.
+use Rattle.std.proofs.Common.{◌≡◌, ℕ, zero, suc, ◌+◌, ◌<◌, List, [], ◌∷◌, ◌++◌, map, length, get_or, take, sym, ap, ◌∙◌, append_assoc, append-nil, arith}
 use mathlib.Core.List.{map-append}
 use Rattle.std.proofs.lemmas.List.{take_more}
 use Rattle.working_set.specs.Words.{told}
@@ -7,6 +7,10 @@ use Rattle.working_set.specs.declared.outcomes.Outcome.{Outcome}
 use Rattle.report.specs.Asking.{OfCheck, OfChecks}
 use Rattle.report.specs.Lines.{answer_text, answer_lines}
 use Rattle.report.specs.declared.answer.Answer.{Answer}
+
+pub map_more : {A B : Type 0} (f : A → B) (xs : List A) (i : ℕ) (x : A) → i < length xs → x ≡ get_or xs i x → map f (take (i + 1) xs) ≡ map f (take i xs) ++ (f x ∷ [])
+map_more f xs i x h e =
+    ap (map f) (take_more xs i x h) ∙ map-append f (take i xs) (get_or xs i x ∷ []) ∙ ap (λ y. map f (take i xs) ++ (f y ∷ [])) (sym e)
 
 -- what a map gives of one more
 pub pushed : {A B : Type 0} (f : A → B) (xs : List A) (x : A) {ys : List A} {zs : List B} {b : B} → ys ≡ xs ++ (x ∷ []) → map f xs ≡ zs → f x ≡ b → map f ys ≡ zs ++ (b ∷ [])

@@ -1,9 +1,11 @@
 -- The texts of a job, entered one after another: each is read as a type, which is compiled. Assumes nothing.
-use Rattle.std.specs.Prelude.{◌≡◌, ℕ, Bool, List, [], ◌∷◌, length, Ok}
+use Rattle.std.specs.Prelude.{◌≡◌, ℕ, ◌<◌, Bool, List, [], ◌∷◌, length, Ok}
+use Rattle.custom.specs.Customs.{Custom}
 use Rattle.matcher.specs.Nodes.{Node}
 use Rattle.membership.specs.Rows.{Row, start}
-use Rattle.compiling.specs.Outcomes.{alloc_ty_lem, granted, entered}
+use Rattle.compiling.specs.Outcomes.{alloc_ty_lem, granted, entered, Means}
 use Rattle.compiling.specs.declared.annotation.Annotation.{Annotation}
+use Rattle.type_compiled.specs.Compiled.{annotation_at}
 use Rattle.annotation.specs.Evaluated.{ReadAs}
 
 -- the types, the nodes of the store, and the annotations that are compiled
@@ -32,3 +34,12 @@ pub record Enters (e : Setting) (s : List ℕ) (before after : State) : Type 0 w
 abbrev pub EnterAll : Setting → List (List ℕ) → State → State → Type 0
 EnterAll e [] before after = before ≡ after
 EnterAll e (s ∷ ss) before after = (next : State) × Enters e s before next × EnterAll e ss next after
+
+-- every annotation accepts just the members of its type, in every heap
+pub record Rightly (c : Custom) (s : State) (a : ℕ) : Type 0 where
+  pub stands : (annotation_at s.annotations a).ty < length s.rows
+  pub written : (annotation_at s.annotations a).root < length s.nodes
+  pub means : Means c s.rows s.nodes (annotation_at s.annotations a)
+
+abbrev pub AllRight : Custom → State → Type 0
+AllRight c s = (a : ℕ) → a < length s.annotations → Rightly c s a

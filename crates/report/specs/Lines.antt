@@ -4,14 +4,14 @@ use Rattle.values.specs.Refusals.{number}
 use Rattle.values.specs.declared.refusal.Refusal.{Refusal}
 use Rattle.job.specs.declared.fault.Report.{Report}
 use Rattle.report.specs.Reports.{Reports, bad_says}
+use Rattle.report.specs.ByCalls.{ReportsByCalls}
 use Rattle.report.specs.declared.answer.Answer.{Answer}
-use Rattle.report.specs.declared.bad.BadRecord.{BadRecord}
 use Rattle.report.specs.declared.reported.Reported.{Reported}
 use Rattle.report.specs.declared.reported.Reported.TheVariants.{Bad, Answers}
 
 -- yes, no, or the number of the reason to refuse
 abbrev pub says_text : Result Bool Refusal → List ℕ
-says_text (Ok isMember) = cond isMember (codes "yes") (codes "no")
+says_text (Ok is_member) = cond is_member (codes "yes") (codes "no")
 says_text (Err why) = codes "refused " ++ decimal (number why)
 
 -- the annotation, the value and the answer
@@ -35,4 +35,5 @@ report_lines (Answers xs) = answer_lines (vec_items xs)
 pub record Lines (s text : List ℕ) : Type 0 where
   pub reported : Reported
   pub right : Reports s reported
+  pub by_calls : ReportsByCalls s reported
   pub written : text ≡ report_lines reported

@@ -1,5 +1,5 @@
 -- What is reported of a job: its answers, or its first bad record. Assumes nothing.
-use Rattle.std.specs.Prelude.{◌≡◌, ℕ, Bool, true, cond, List, [], ◌++◌, map, length, take, Ok, Err, vec_items, Result, nat_lt}
+use Rattle.std.specs.Prelude.{◌≡◌, ℕ, Bool, true, cond, List, map, length, take, Ok, Err, vec_items, Result, nat_lt}
 use Rattle.values.specs.Refusals.{number}
 use Rattle.values.specs.declared.refusal.Refusal.{Refusal}
 use Rattle.values.specs.declared.refusal.Refusal.TheVariants.{NoNode, NoValue}
@@ -10,9 +10,6 @@ use Rattle.membership.specs.Rows.{Row}
 use Rattle.membership.specs.Members.{member}
 use Rattle.compiling.specs.Outcomes.{alloc_ty_lem, refused}
 use Rattle.type_compiled.specs.Compiled.{annotation_at}
-use Rattle.runs.specs.States.{State as SetState}
-use Rattle.runs.specs.Runs.{Reaches}
-use Rattle.runs.specs.Throughout.{Throughout}
 use Rattle.annotation.specs.Evaluated.{ReadAs}
 use Rattle.annotation.specs.Faults.{code_of, byte_of}
 use Rattle.job_format.specs.Order.{Verified}
@@ -21,8 +18,6 @@ use Rattle.job_format.specs.declared.query.Query.{Query}
 use Rattle.job.specs.Judged.{Judged, fault_says}
 use Rattle.job.specs.declared.fault.Report.{Report}
 use Rattle.report.specs.Entering.{State, blank, Setting, EnterAll}
-use Rattle.report.specs.Held.{set_over}
-use Rattle.report.specs.Asking.{Asked}
 use Rattle.report.specs.declared.answer.Answer.{Answer}
 use Rattle.report.specs.declared.bad.BadRecord.{BadRecord}
 use Rattle.report.specs.declared.bad.BadRecord.TheVariants.{Job, Text, Compiling}
@@ -82,19 +77,11 @@ BadIn s (Job f) = Judged s (Err f)
 BadIn s (Text n f) = Verified s × Stopped (job_setting s) s blank (Text n f)
 BadIn s (Compiling n why) = Verified s × Stopped (job_setting s) s blank (Compiling n why)
 
--- the working set of the job s once its texts came to the state t; it is blank where no text is entered
-abbrev pub job_set : List ℕ → State → SetState
-job_set s t = set_over (job_cells s) most_places t
-
--- the answers to the queries of the job s: its texts are entered by calls on a blank working set, and each query is one more call.
--- The law of every run holds throughout, and an answer is yes just for a member
+-- the answers to the queries of the job s, where its texts came to the state t
 pub record Answered (s : List ℕ) (given : List Answer) : Type 0 where
   pub good : Verified s
   pub texts : State
   pub entered : EnterAll (job_setting s) (job_texts s) blank texts
-  pub calls : Reaches (job_custom s) true (job_set s blank) (job_set s texts)
-  pub asked : Asked (job_custom s) true (job_set s texts) (job_queries s) given
-  pub lawful : Throughout (job_custom s) true (job_set s blank) (calls.steps ++ asked.ran.steps)
   pub answers : given ≡ map (answered texts (job_world s)) (job_queries s)
 
 -- what is reported of the bytes s

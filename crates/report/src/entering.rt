@@ -1,14 +1,14 @@
 // The texts of a job, entered one after another.
-ghost use Rattle.std.specs.Prelude.{◌≡◌, [], IfOk, Ok, Err, MatchResult};
+ghost use Rattle.std.specs.Prelude.{◌≡◌, [], IfOk, Ok, Err, MatchResult, OnOk};
 ghost use Rattle.values.specs.Refusals.{number};
-ghost use Rattle.membership.specs.Rows.{start};
+ghost use Rattle.membership.specs.Rows.{Keeps, start};
 ghost use Rattle.typing.specs.Held.{rows_of};
 ghost use Rattle.compiling.specs.Outcomes.{alloc_ty_lem, granted, refused, entered};
 ghost use Rattle.type_compiled.specs.Compiled.{annotations_of};
 ghost use Rattle.annotation.specs.Evaluated.{ReadAs};
 ghost use Rattle.job.specs.Held.{job_bytes};
 ghost use Rattle.job_format.specs.Contents.{job_texts};
-ghost use Rattle.report.specs.Entering.{Enters, EnterAll};
+ghost use Rattle.report.specs.Entering.{Enters, EnterAll, AllRight};
 ghost use Rattle.report.specs.Reports.{Turned, Stopped};
 ghost use Rattle.working_set.specs.Sets.{state_of as setState};
 ghost use Rattle.report.specs.Held.{state_of, setting, set_over};
@@ -35,7 +35,8 @@ fn read_type(
     record: usize,
     text: &[u8],
 ) -> Result<usize, InRecord>
-    ensures { MatchResult result (λ ty. ReadAs text.now (rows_of types.old) (rows_of types.new) (Ok ty)) (λ x. (x.«record» ≡ «record») × ReadAs text.now (rows_of types.old) (rows_of types.new) (Err x.fault)) }
+    ensures read { MatchResult result (λ ty. ReadAs text.now (rows_of types.old) (rows_of types.new) (Ok ty)) (λ x. (x.«record» ≡ «record») × ReadAs text.now (rows_of types.old) (rows_of types.new) (Err x.fault)) }
+    ensures stay { OnOk result (Keeps (rows_of types.old) (rows_of types.new)) }
 {
     match reader.read(text, types) {
         Ok(ty) => Ok(ty),
@@ -111,7 +112,9 @@ impl<S: TypeMatcherAlloc> Tables<S> {
         record: usize,
         text: &[u8],
     ) -> Result<(), BadRecord>
+        requires { AllRight (C.TyCustom.custom customs.now) (state_of S.TypeMatcherAlloc.nodes self.old) }
         ensures entered { MatchResult result (λ _. Enters (setting S.TypeMatcherAlloc.sharing (S.TypeMatcherAlloc.limit self.old.store) (C.TyCustom.custom customs.now)) text.now (state_of S.TypeMatcherAlloc.nodes self.old) (state_of S.TypeMatcherAlloc.nodes self.new)) (λ bad. Turned (setting S.TypeMatcherAlloc.sharing (S.TypeMatcherAlloc.limit self.old.store) (C.TyCustom.custom customs.now)) (state_of S.TypeMatcherAlloc.nodes self.old) «record» text.now bad) }
+        ensures right { OnOk result (AllRight (C.TyCustom.custom customs.now) (state_of S.TypeMatcherAlloc.nodes self.new)) }
         ensures limit { S.TypeMatcherAlloc.limit self.new.store ≡ S.TypeMatcherAlloc.limit self.old.store }
     {
         let ty = read_type(&mut self.reader, &mut self.types, record, text)?;
@@ -128,8 +131,10 @@ impl<S: TypeMatcherAlloc> Tables<S> {
 
     // Enters the texts of a job, up to the first that is turned down.
     pub(crate) fn enter_all<C: TyCustom>(&mut self, customs: &C, job: &Job) -> Result<(), BadRecord>
+        requires { AllRight (C.TyCustom.custom customs.now) (state_of S.TypeMatcherAlloc.nodes self.old) }
         ensures limit { S.TypeMatcherAlloc.limit self.new.store ≡ S.TypeMatcherAlloc.limit self.old.store }
         ensures entered { MatchResult result (λ _. EnterAll (setting S.TypeMatcherAlloc.sharing (S.TypeMatcherAlloc.limit self.old.store) (C.TyCustom.custom customs.now)) (job_texts (job_bytes job.now)) (state_of S.TypeMatcherAlloc.nodes self.old) (state_of S.TypeMatcherAlloc.nodes self.new)) (λ bad. Stopped (setting S.TypeMatcherAlloc.sharing (S.TypeMatcherAlloc.limit self.old.store) (C.TyCustom.custom customs.now)) (job_bytes job.now) (state_of S.TypeMatcherAlloc.nodes self.old) bad) }
+        ensures right { OnOk result (AllRight (C.TyCustom.custom customs.now) (state_of S.TypeMatcherAlloc.nodes self.new)) }
     {
         let n = job.texts();
         for v in 0..n {

@@ -1,6 +1,8 @@
 // From the bytes of a job to its answers, or to its first bad record, and to the lines that are written.
 #![tactic(auto)]
+
 pub mod answer;
+mod answering;
 mod asking;
 pub mod bad;
 mod entering;

@@ -3,6 +3,7 @@ ghost use Rattle.std.specs.Prelude.{◌≡◌, IfOk};
 ghost use Rattle.job.specs.Held.{job_bytes};
 ghost use Rattle.job_format.specs.Order.{Verified};
 ghost use Rattle.report.specs.Reports.{Reports, bad_says};
+ghost use Rattle.report.specs.ByCalls.{ReportsByCalls};
 
 use crate::asking::{ask, queries_of};
 use crate::bad::BadRecord;
@@ -22,7 +23,8 @@ const PLACES: u16 = 8192;
 // The texts of a verified job are entered into a working set over its cells, and its queries are asked of that.
 fn report_verified(memory: Global, job: Job) -> Result<Reported, AllocError>
     requires { Verified (job_bytes job) }
-    ensures { IfOk result (Reports (job_bytes job)) }
+    ensures reports { IfOk result (Reports (job_bytes job)) }
+    ensures by_calls { IfOk result (ReportsByCalls (job_bytes job)) }
 {
     let customs = Pair::new(job.marks(memory)?, job.ranges(memory)?);
     let mut tables = Tables::over(memory, SharingStore::new(memory, PLACES)?)?;
@@ -37,7 +39,8 @@ fn report_verified(memory: Global, job: Job) -> Result<Reported, AllocError>
 
 // An answer for each query of a job, or its first bad record.
 pub fn report(memory: Global, bytes: Vec<u8>) -> Result<Reported, AllocError>
-    ensures { IfOk result (Reports bytes.items) }
+    ensures reports { IfOk result (Reports bytes.items) }
+    ensures by_calls { IfOk result (ReportsByCalls bytes.items) }
 {
     match opened(RawJob::new(bytes)) {
         Ok(job) => report_verified(memory, job),

@@ -1,4 +1,4 @@
-use Rattle.std.proofs.Common.{◌≡◌, ◌<◌, map, length, get_or, vec_items, sym, refl, ap, ◌∙◌, arith, take_all}
+use Rattle.std.proofs.Common.{◌<◌, map, length, get_or, vec_items, sym, refl, ap, ◌∙◌, arith, take_all}
 use Rattle.std.proofs.lemmas.List.{take_more}
 use Rattle.working_set.specs.Words.{told}
 use Rattle.job_format.specs.declared.query.Query.{Query}
@@ -18,10 +18,10 @@ loop-i-preserved c =
     let q = get_or c.args.queries.now i none in
     let x : Answer = record { annotation = q.annotation; value = q.value; says = c.said.result } in
     let within : i < length c.args.outcomes.now = omega (arith, c.loop-i-test.true, c.requires.each) in (
-      pushed query_of (vec_items c.loop-i.all) x c.push-reserved.ensures.items c.loop-i.invariant.0 (refl {a = q}) ∙ sym (take_more c.args.queries.now i none c.loop-i-test.true),
-      pushed tells (vec_items c.loop-i.all) x c.push-reserved.ensures.items c.loop-i.invariant.1 c.said.ensures ∙ sym (map_take told c.args.outcomes.now i (Value (record { 0 = 0 })) within),
-      omega (arith, c.push-reserved.ensures.len, c.loop-i.invariant.2),
-      omega (arith, c.push-reserved.ensures.capacity, c.loop-i.invariant.3),
+      pushed query_of (vec_items c.loop-i.all) x c.push_reserved.ensures.items c.loop-i.invariant.0 (refl {a = q}) ∙ sym (take_more c.args.queries.now i none c.loop-i-test.true),
+      pushed tells (vec_items c.loop-i.all) x c.push_reserved.ensures.items c.loop-i.invariant.1 c.said.ensures ∙ sym (map_take told c.args.outcomes.now i (Value (record { 0 = 0 })) within),
+      omega (arith, c.push_reserved.ensures.len, c.loop-i.invariant.2),
+      omega (arith, c.push_reserved.ensures.capacity, c.loop-i.invariant.3),
     )
 
 pub returns : goal.returns

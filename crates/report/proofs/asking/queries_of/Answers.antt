@@ -1,4 +1,4 @@
-use Rattle.std.proofs.Common.{◌≡◌, List, [], ◌∷◌, ◌++◌, length, take, vec_items, sym, refl, ap, ◌∙◌, arith, take_all}
+use Rattle.std.proofs.Common.{List, [], ◌∷◌, ◌++◌, take, sym, ap, ◌∙◌, arith, take_all}
 use Rattle.std.proofs.lemmas.List.{take_more}
 use Rattle.job.specs.Held.{job_bytes}
 use Rattle.job_format.specs.Contents.{job_queries}
@@ -6,10 +6,10 @@ use Rattle.job_format.specs.declared.query.Query.{Query}
 use Rattle.report.proofs.asking.queries_of.Goals as goal
 
 pub loop-v-init : goal.loop-v-init
-loop-v-init c = let m = c.in-ok-all.ensures in (m.items, m.len, m.capacity)
+loop-v-init c = let m = c.in_ok-all.ensures in (m.items, m.len, m.capacity)
 
-pub push-reserved-requires : goal.push-reserved-requires
-push-reserved-requires c = omega (arith, c.loop-v.invariant.1, c.loop-v.invariant.2, c.loop-v-test.true)
+pub push_reserved-requires : goal.push_reserved-requires
+push_reserved-requires c = omega (arith, c.loop-v.invariant.1, c.loop-v.invariant.2, c.loop-v-test.true)
 
 pub loop-v-preserved : goal.loop-v-preserved
 loop-v-preserved c =
@@ -17,12 +17,12 @@ loop-v-preserved c =
     let i = c.loop-v.v in
     let q = c.in-Some.query in
     let s = c.in-Some.ensures in (
-      c.push-reserved.ensures.items
+      c.push_reserved.ensures.items
           ∙ ap (λ (xs : List Query). xs ++ (q ∷ [])) c.loop-v.invariant.0
           ∙ ap (λ (x : Query). take i qs ++ (x ∷ [])) s.is
           ∙ sym (take_more qs i q s.within),
-      omega (arith, c.push-reserved.ensures.len, c.loop-v.invariant.1),
-      omega (arith, c.push-reserved.ensures.capacity, c.loop-v.invariant.2),
+      omega (arith, c.push_reserved.ensures.len, c.loop-v.invariant.1),
+      omega (arith, c.push_reserved.ensures.capacity, c.loop-v.invariant.2),
     )
 
 pub returns : goal.returns

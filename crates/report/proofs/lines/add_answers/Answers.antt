@@ -1,4 +1,4 @@
-use Rattle.std.proofs.Common.{◌≡◌, ℕ, false, List, [], ◌∷◌, ◌++◌, get_or, take, Ok, string_bytes, sym, refl, ap, ◌∙◌, append_assoc, append-nil, take_all}
+use Rattle.std.proofs.Common.{ℕ, false, List, [], ◌∷◌, ◌++◌, get_or, take, Ok, string_bytes, sym, ap, ◌∙◌, append_assoc, append-nil, take_all}
 use Rattle.report.specs.declared.answer.Answer.{Answer}
 use Rattle.report.specs.Lines.{answer_text, answer_lines}
 use Rattle.report.proofs.Lists.{lines_more}

@@ -1,5 +1,5 @@
 -- What is answered of a job is right. Assumes nothing.
-use Rattle.std.proofs.Common.{◌≡◌, ℕ, ◌-◌, Bool, true, false, cond, ◌&&◌, ◌||◌, eqb, ltb, List, [], ◌∷◌, ◌++◌, map, length, get_or, ℤ, Ok, Err, Result, sym, refl, ap, ◌∙◌, subst, arith}
+use Rattle.std.proofs.Common.{◌≡◌, ℕ, ◌-◌, Bool, true, false, cond, ◌&&◌, ◌||◌, eqb, ltb, List, [], ◌∷◌, map, length, get_or, Ok, Err, Result, sym, refl, ◌∙◌, subst, arith}
 use Rattle.values.specs.declared.refusal.Refusal.{Refusal}
 use Rattle.values.specs.declared.refusal.Refusal.TheVariants.{NoNode, NoValue}
 use Rattle.custom.specs.Customs.{Custom, Open, paired, most}
@@ -8,28 +8,22 @@ use Rattle.custom.specs.declared.entries.Mark.{Mark}
 use Rattle.custom.specs.declared.entries.Range.{Range}
 use Rattle.membership.specs.Members.{member}
 use Rattle.type_compiled.specs.Compiled.{annotation_at}
-use Rattle.runs.specs.Acts.{Answer as Told, says, refused, check_told}
+use Rattle.runs.specs.Acts.{says, refused, check_told}
 use Rattle.runs.specs.States.{State as SetState, answer}
 use Rattle.runs.specs.Runs.{Blank, Reaches}
-use Rattle.runs.proofs.Checks.{member_says, reached_says}
+use Rattle.runs.proofs.Checks.{reached_says}
 use Rattle.job_format.specs.Order.{Verified}
 use Rattle.job_format.specs.Contents.{job_cells, job_marks, job_ranges, job_texts, job_queries}
 use Rattle.job_format.specs.declared.query.Query.{Query}
 use Rattle.job_format.proofs.Finding.{job_closed}
 use Rattle.report.specs.Asking.{asks, tells, Asked}
-use Rattle.report.specs.Entering.{State, blank, Setting, Enters, EnterAll}
+use Rattle.report.specs.Entering.{State, blank, EnterAll}
 use Rattle.report.specs.Held.{setting}
-use Rattle.report.specs.Reports.{checks, job_custom, job_world, most_places, job_setting, job_set, Answered, Stopped, BadIn}
+use Rattle.report.specs.Reports.{checks, job_custom, job_world, most_places, job_setting, Answered}
+use Rattle.report.specs.ByCalls.{job_set, AnsweredByCalls}
 use Rattle.report.specs.declared.answer.Answer.{Answer}
-use Rattle.report.specs.declared.bad.BadRecord.{BadRecord}
-use Rattle.report.specs.declared.bad.BadRecord.TheVariants.{Job, Text, Compiling}
 use Rattle.report.proofs.Leading.{texts_lead}
 use Rattle.report.proofs.Replies.{replies, answers_are}
-
--- texts entered in turn, and one more
-pub enter_more : (e : Setting) (ss : List (List ℕ)) (b : List ℕ) (s t u : State) → EnterAll e ss s t → Enters e b t u → EnterAll e (ss ++ b ∷ []) s u
-enter_more e [] b s t u p q = (u, subst (λ (x : State). Enters e b x u) (sym p) q, refl)
-enter_more e (x ∷ ss) b s t u p q = (p.0, p.1, enter_more e ss b p.0 t u p.2 q)
 
 -- a wildcard of a job's customs says yes to all
 either_way : (p q x y x' y' : Bool) → (x ≡ true → x' ≡ true) → (y ≡ true → y' ≡ true) → (p && cond q x y) ≡ true → (p && cond q x' y') ≡ true
@@ -81,8 +75,8 @@ module _ (s : List ℕ) (good : Verified s) (texts : State) (entered : EnterAll 
   all_told [] = refl
   all_told (q ∷ qs) = λ i. check_told_by q i ∷ all_told qs i
 
-  pub answered_of : (given : List Answer) → Asked (job_custom s) true (job_set s texts) (job_queries s) given → Answered s given
-  answered_of given asked =
+  pub answered_by_calls : (given : List Answer) → Asked (job_custom s) true (job_set s texts) (job_queries s) given → AnsweredByCalls s given
+  answered_by_calls given asked =
       let r = asked.ran in
       let told : map tells given ≡ map (λ q. check_told (right q)) (job_queries s) = sym r.answered ∙ replies (job_custom s) true (job_set s texts) r.steps (job_queries s) r.run r.called ∙ all_told (job_queries s) in
       record {
@@ -104,11 +98,6 @@ pub asked_of : (s : List ℕ) (k : Custom) (set : SetState) (texts : State) (qs 
 asked_of s k set texts qs given e f q a =
     subst (λ (x : Custom). Asked x true (job_set s texts) (job_queries s) given) e (subst (λ (x : SetState). Asked k true x (job_queries s) given) f (subst (λ (x : List Query). Asked k true set x given) q a))
 
-stopped_of : (s : List ℕ) (k : Custom) (limit : ℕ) (s₀ : State) (bad : BadRecord) → k ≡ job_custom s → limit ≡ most_places → s₀ ≡ blank → Stopped (setting true limit k) s s₀ bad → Stopped (job_setting s) s blank bad
-stopped_of s k limit s₀ bad e l b p =
-    subst (λ (x : Custom). Stopped (setting true most_places x) s blank bad) e (subst (λ (m : ℕ). Stopped (setting true m k) s blank bad) l (subst (λ (x : State). Stopped (setting true limit k) s x bad) b p))
-
-pub bad_of : (s : List ℕ) (k : Custom) (limit : ℕ) (s₀ : State) (bad : BadRecord) → k ≡ job_custom s → limit ≡ most_places → s₀ ≡ blank → Verified s → Stopped (setting true limit k) s s₀ bad → BadIn s bad
-bad_of s k limit s₀ (Job f) e l b v p = absurd p.turned
-bad_of s k limit s₀ (Text n f) e l b v p = (v, stopped_of s k limit s₀ (Text n f) e l b p)
-bad_of s k limit s₀ (Compiling n why) e l b v p = (v, stopped_of s k limit s₀ (Compiling n why) e l b p)
+-- those answers are right
+pub answered : (s : List ℕ) (given : List Answer) → AnsweredByCalls s given → Answered s given
+answered s given a = record { good = a.good; texts = a.texts; entered = a.entered; answers = a.answers }
