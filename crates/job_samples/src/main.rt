@@ -1,5 +1,6 @@
 // Reports each job that is named, a line for its name and then its lines.
 #![tactic(auto)]
+
 use report::lines::lines;
 use std::{env, fs};
 

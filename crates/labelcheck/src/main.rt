@@ -1,5 +1,6 @@
 // Reads a job from standard input and writes a line for each query, or one line for its first bad record.
 #![tactic(auto)]
+
 use job::limits::MOST_BYTES;
 use report::lines::lines;
 use std::io::Read;

@@ -1,5 +1,6 @@
 // Replays recorded jobs: each has its length in four bytes in front of it.
 #![tactic(auto)]
+
 ghost use Rattle.std.specs.Prelude.{◌<◌, length, IfSome};
 
 use report::lines::lines;
