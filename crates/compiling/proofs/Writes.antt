@@ -4,7 +4,7 @@ use Rattle.std.proofs.lemmas.List.{get_or_append_left, get_or_push}
 use Rattle.std.proofs.lemmas.Bool.{and_parts, and_from, lt-ltb, ltb-true, cases_lt}
 use Rattle.std.proofs.lemmas.Slice.Eq.{bytes_eq-Decides}
 use Rattle.matcher.specs.Nodes.{Node, no_node, node_at_lem, depths, depth_over, highest, all_below, formed, fault, is_granted, roomy, valid, valid_from, used, places, find, same_node, place, put}
-use Rattle.matcher.proofs.Grows.{Granted, granted, grants, depths_push, depths_long, used-push, valid_push, place_low, place_plain, place_sharing, put_new, put_old}
+use Rattle.matcher.proofs.Grows.{Granted, granted, grants, depths_push, depths_long, used_push, valid_push, place_low, place_plain, place_sharing, put_new, put_old}
 
 -- the nodes ns stand in ms, with their depths
 pub record Front (ns ms : List Node) : Type 0 where
@@ -154,5 +154,5 @@ placed sh limit d k ns x v dl kl fit room = by (cases_lt (place sh ns x) (length
           deep = omega (arith, top, high);
           front = front_push ns x;
           fine = valid_push limit ns x v (ap is_granted (grants ns x (fit_grants d k ns x dl kl fit))) room;
-          more = omega (arith, used-push ns x);
+          more = omega (arith, used_push ns x);
         })

@@ -21,9 +21,9 @@ pub depths_long : (ns : List Node) → length (depths ns) ≡ length ns
 unfolding depths
 depths_long ns = depths_long_from [] ns ∙ omega arith
 
-pub used-push : (ns : List Node) (d : Node) → used (ns ++ d ∷ []) ≡ used ns + places d
-used-push [] d = omega arith
-used-push (x ∷ ns) d = omega (arith, used-push ns d)
+pub used_push : (ns : List Node) (d : Node) → used (ns ++ d ∷ []) ≡ used ns + places d
+used_push [] d = omega arith
+used_push (x ∷ ns) d = omega (arith, used_push ns d)
 
 -- what a node that can be added is like
 pub record Granted (ns : List Node) (d : Node) : Type 0 where
@@ -92,7 +92,7 @@ valid_used_from limit b (x ∷ ns) low v =
     let q = and_parts (is_granted (fault b x)) (roomy limit b x) p.0 in
     let e : (b ++ x ∷ []) ++ ns ≡ b ++ (x ∷ ns) = append_assoc b (x ∷ []) ns in
     let r : used b + places x ≤ limit = leb-true (used b + places x) limit q.1 in
-    subst (λ y. used y ≤ limit) e (valid_used_from limit (b ++ x ∷ []) ns (omega (arith, used-push b x)) p.1)
+    subst (λ y. used y ≤ limit) e (valid_used_from limit (b ++ x ∷ []) ns (omega (arith, used_push b x)) p.1)
 
 pub valid_used : (limit : ℕ) (ns : List Node) → valid limit ns ≡ true → used ns ≤ limit
 unfolding valid

@@ -11,7 +11,7 @@ use Rattle.annotation.specs.declared.calls.Form.TheVariants.{Fixed, Open}
 use Rattle.annotation.specs.Calls.{called, part}
 use Rattle.annotation.specs.Evaluated.{State, first, past, Came, made, turned, on_made, placed, calls, joined, word_in, text_comes, alt_comes, more_come, ReadAs}
 use Rattle.runs.specs.Acts.{Act, make_type, union_of, alloc_type}
-use Rattle.runs.specs.States.{State as SetState, with_rows, rows_after, made as made-type, after, after_entry, answer}
+use Rattle.runs.specs.States.{State as SetState, with_rows, rows_after, made as made_type, after, after_entry, answer}
 use Rattle.runs.specs.Runs.{Reaches}
 use Rattle.runs.proofs.Sofar.{reaches_here, reaches_by, reaches_trans}
 use Rattle.report.specs.Entering.{State as Tables, Enters, EnterAll}
@@ -33,8 +33,8 @@ module _ (c : Custom) (shares : Bool) where
     trans : (t u v : List Row) → Leads t u → Leads u v → Leads t v
     trans t u v = reaches_trans c shares (with_rows set t) (with_rows set u) (with_rows set v)
 
-    made_leads : (t : List Row) (x : TypeAlt) → Leads t (rows_after t (made-type t x))
-    made_leads t x = by (with_rows set t) (make_type x) (with_rows set (rows_after t (made-type t x))) refl
+    made_leads : (t : List Row) (x : TypeAlt) → Leads t (rows_after t (made_type t x))
+    made_leads t x = by (with_rows set t) (make_type x) (with_rows set (rows_after t (made_type t x))) refl
 
     union_leads : (t : List Row) (m n : ℕ) → Leads t (rows_after t (union2 t m n))
     union_leads t m n = by (with_rows set t) (union_of m n) (with_rows set (rows_after t (union2 t m n))) refl

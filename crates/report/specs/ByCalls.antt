@@ -1,4 +1,4 @@
--- How the answers of a job come about: by calls on a working set. Assumes nothing.
+-- The answers of a job as outcomes of calls on a working set. Assumes nothing.
 use Rattle.std.specs.Prelude.{◌≡◌, ℕ, true, List, ◌++◌, map, vec_items}
 use Rattle.runs.specs.States.{State as SetState}
 use Rattle.runs.specs.Runs.{Reaches}
@@ -17,8 +17,8 @@ use Rattle.report.specs.declared.reported.Reported.TheVariants.{Bad, Answers}
 abbrev pub job_set : List ℕ → State → SetState
 job_set s t = set_over (job_cells s) most_places t
 
--- the answers to the queries of the job s: its texts are entered by calls on a blank working set, and each query is one more call.
--- The law of every run holds throughout, and an answer is yes just for a member
+-- the answers to the queries of the job s: calls on a blank working set lead to the set that its texts leave, each query is one more call,
+-- performed on that set, the law of every run holds throughout both, and an answer is yes just for a member
 pub record AnsweredByCalls (s : List ℕ) (given : List Answer) : Type 0 where
   pub good : Verified s
   pub texts : State
@@ -28,7 +28,7 @@ pub record AnsweredByCalls (s : List ℕ) (given : List Answer) : Type 0 where
   pub lawful : Throughout (job_custom s) true (job_set s blank) (calls.steps ++ asked.ran.steps)
   pub answers : given ≡ map (answered texts (job_world s)) (job_queries s)
 
--- where answers are reported of the bytes s, they came about by calls
+-- answers that are reported of the bytes s are outcomes of calls
 abbrev pub ReportsByCalls : List ℕ → Reported → Type 0
 ReportsByCalls s (Bad bad) = Unit {0}
 ReportsByCalls s (Answers xs) = AnsweredByCalls s (vec_items xs)

@@ -10,7 +10,7 @@ ghost use Rattle.job.specs.Held.{job_bytes};
 ghost use Rattle.job_format.specs.Contents.{job_texts};
 ghost use Rattle.report.specs.Entering.{Enters, EnterAll, AllRight};
 ghost use Rattle.report.specs.Reports.{Turned, Stopped};
-ghost use Rattle.working_set.specs.Sets.{state_of as setState};
+ghost use Rattle.working_set.specs.Sets.{state_of as set_state};
 ghost use Rattle.report.specs.Held.{state_of, setting, set_over};
 
 use crate::bad::{BadRecord, InRecord, Uncompiled};
@@ -91,7 +91,7 @@ impl<S: TypeMatcherAlloc + Drop> Tables<S> {
         below: H,
         customs: C,
     ) -> Result<WorkingSet<H, S, C>, AllocError>
-        ensures { IfOk result (λ w. (setState H.Heap.cells S.TypeMatcherAlloc.nodes S.TypeMatcherAlloc.limit w ≡ set_over (H.Heap.cells below) (S.TypeMatcherAlloc.limit self.store) (state_of S.TypeMatcherAlloc.nodes self)) × (w.customs ≡ customs)) }
+        ensures { IfOk result (λ w. (set_state H.Heap.cells S.TypeMatcherAlloc.nodes S.TypeMatcherAlloc.limit w ≡ set_over (H.Heap.cells below) (S.TypeMatcherAlloc.limit self.store) (state_of S.TypeMatcherAlloc.nodes self)) × (w.customs ≡ customs)) }
     {
         let live = LiveHeap::over(memory, below)?;
         let Tables {

@@ -49,14 +49,12 @@ impl fmt::Display for BadRecord {
 }
 
 // Adds a line for each answer.
-fn add_answers(text: &mut String, answers: &[Answer]) -> Result<(), AllocError>
+fn add_answers(memory: Global, text: &mut String, answers: &[Answer]) -> Result<(), AllocError>
     ensures { OnOk result (string_bytes text.new ≡ string_bytes text.old ++ answer_lines answers.now) }
 {
     for answer in answers {
-        match writeln!(text, "{answer}") {
-            Ok(()) => {}
-            Err(_) => return Err(AllocError),
-        }
+        let line = format!(in memory; "{answer}\n")?;
+        text.push_str(line.as_str())?;
     }
     Ok(())
 }
@@ -69,7 +67,7 @@ fn written(memory: Global, reported: &Reported) -> Result<String, AllocError>
         Reported::Bad(bad) => format!(in memory; "{bad}\n"),
         Reported::Answers(answers) => {
             let mut text = String::new(memory);
-            add_answers(&mut text, answers)?;
+            add_answers(memory, &mut text, answers)?;
             Ok(text)
         }
     }

@@ -20,7 +20,7 @@ use std::alloc::{AllocError, Global};
 // The places of the store that a job's texts are compiled into.
 const PLACES: u16 = 8192;
 
-// The texts of a verified job are entered into a working set over its cells, and its queries are asked of that.
+// The texts of a verified job are entered into tables, which become a working set over its cells, and its queries are performed on that.
 fn report_verified(memory: Global, job: Job) -> Result<Reported, AllocError>
     requires { Verified (job_bytes job) }
     ensures reports { IfOk result (Reports (job_bytes job)) }

@@ -4,8 +4,8 @@ use Rattle.values.specs.Lives.{Live, new_says, put_says}
 use Rattle.values.specs.declared.refusal.Refusal.{Refusal}
 use Rattle.values.specs.declared.value.Value.{Value}
 use Rattle.custom.specs.Customs.{Custom}
-use Rattle.membership.specs.Rows.{Outcome as RowsOutcome, granted, refused as Turned-down, union2}
-use Rattle.compiling.specs.Outcomes.{Outcome as CompileOutcome, granted as entered-as, refused as not_entered}
+use Rattle.membership.specs.Rows.{Outcome as RowsOutcome, granted, refused as turned_down, union2}
+use Rattle.compiling.specs.Outcomes.{Outcome as CompileOutcome, granted as entered_as, refused as not_entered}
 use Rattle.runs.specs.Acts.{Act, new_cell, put_part, freeze_all, make_type, union_of, alloc_type, check_value, refused, value_told, done_told}
 use Rattle.runs.specs.States.{State, with_heap, with_rows, made, type_answer, rows_after, annotation_answer, after_entry, entry, answer, after}
 
@@ -20,10 +20,10 @@ module _ (s : State) (n : ℕ) where
 
   rows_stay : (o : RowsOutcome) → type_answer o ≡ refused n → with_rows s (rows_after s.rows o) ≡ s
   rows_stay (granted g) e = let z : ◌≡◌ {A = ℕ} 0 1 = cc in absurd (omega arith)
-  rows_stay (Turned-down m) e = refl
+  rows_stay (turned_down m) e = refl
 
   entry_stays : (o : CompileOutcome) → annotation_answer o ≡ refused n → after_entry s o ≡ s
-  entry_stays (entered-as x) e = let z : ◌≡◌ {A = ℕ} 0 1 = cc in absurd (omega arith)
+  entry_stays (entered_as x) e = let z : ◌≡◌ {A = ℕ} 0 1 = cc in absurd (omega arith)
   entry_stays (not_entered m) e = refl
 
 pub unmoved : (c : Custom) (shares : Bool) (s : State) (a : Act) (n : ℕ) → answer c shares s a ≡ refused n → after c shares s a ≡ s

@@ -11,7 +11,7 @@ use Rattle.membership.proofs.Kepts.{Fine, join_fine}
 use Rattle.matcher.specs.Meaning.{accepts}
 use Rattle.compiling.specs.Outcomes.{annotation}
 use Rattle.compiling.specs.declared.annotation.Annotation.{Annotation}
-use Rattle.runs.specs.Acts.{Act, union_of, Answer, type_is, says, refused as refused-by}
+use Rattle.runs.specs.Acts.{Act, union_of, Answer, type_is, says, refused as refused_by}
 use Rattle.runs.specs.States.{State, annotation_in, world_of, OutcomeOf, type_answer, rows_after, check_says}
 use Rattle.runs.specs.Runs.{Step, Run, state_at, Made}
 use Rattle.runs.specs.Throughout.{SaysOf, Checks, Joins, Same, Throughout, EveryRunKeepsTheLaw}
@@ -29,8 +29,8 @@ module _ (c : Custom) (shares : Bool) (opens : Open c) where
       let x = annotation_in s a in
       let p : (ltb a (length s.annotations) && ltb x.root (length s.nodes)) ≡ true = and_from _ _ (lt-ltb a (length s.annotations) l) (lt-ltb x.root (length s.nodes) n.rooted) in
       let yes_no : Answer = says (accepts (world_of c shares s) s.nodes x.root v) in
-      ap (λ b. cond b (cond (ltb v (length s.heap.cells)) yes_no (refused-by 3)) (refused-by 2)) p
-      ∙ ap (λ b. cond b yes_no (refused-by 3)) (lt-ltb v (length s.heap.cells) m)
+      ap (λ b. cond b (cond (ltb v (length s.heap.cells)) yes_no (refused_by 3)) (refused_by 2)) p
+      ∙ ap (λ b. cond b yes_no (refused_by 3)) (lt-ltb v (length s.heap.cells) m)
       ∙ ap says (n.means s.heap.cells v)
 
   said : (s : State) (a v : ℕ) (b : Bool) → check_says c shares s a v ≡ says b → SaysOf c shares s a v b
@@ -144,7 +144,7 @@ module _ (c : Custom) (shares : Bool) (opens : Open c) where
   first_of s [] = refl
   first_of s (x ∷ xs) = refl
 
-  refused_at : (s : State) (xs : List Step) → Run c shares s xs → (k n : ℕ) (a : Act) → Made xs k a (refused-by n) → state_at s xs (suc k) ≡ state_at s xs k
+  refused_at : (s : State) (xs : List Step) → Run c shares s xs → (k n : ℕ) (a : Act) → Made xs k a (refused_by n) → state_at s xs (suc k) ≡ state_at s xs k
   refused_at s [] r k n a m = absurd m
   refused_at s (x ∷ xs) r zero n a m = sym (first_of x.after xs) ∙ r.0.leaves ∙ unmoved c shares s x.call n (sym r.0.answered ∙ m.1)
   refused_at s (x ∷ xs) r (suc k) n a m = refused_at x.after xs r.1 k n a m

@@ -3,10 +3,10 @@ use Rattle.std.specs.Prelude.{◌≡◌, ℕ, Bool, cond, ◌&&◌, List, length
 use Rattle.values.specs.Lives.{Live, new_says, new_leaves, put_says, put_leaves, frozen_all}
 use Rattle.custom.specs.Customs.{Custom}
 use Rattle.custom.specs.Worlds.{World, world}
-use Rattle.membership.specs.Rows.{Alt, plainly, Row, Outcome as RowsOutcome, granted, refused as Turned-down, single, union2}
+use Rattle.membership.specs.Rows.{Alt, plainly, Row, Outcome as RowsOutcome, granted, refused as turned_down, single, union2}
 use Rattle.matcher.specs.Nodes.{Node}
 use Rattle.matcher.specs.Meaning.{accepts}
-use Rattle.compiling.specs.Outcomes.{annotation, Outcome as CompileOutcome, granted as entered-as, refused as not_entered, alloc_ty_lem}
+use Rattle.compiling.specs.Outcomes.{annotation, Outcome as CompileOutcome, granted as entered_as, refused as not_entered, alloc_ty_lem}
 use Rattle.compiling.specs.declared.annotation.Annotation.{Annotation}
 use Rattle.runs.specs.Acts.{Act, new_cell, put_part, freeze_all, make_type, union_of, alloc_type, check_value, Answer, done, type_is, annotation_is, says, refused, value_told, done_told}
 
@@ -32,22 +32,22 @@ annotation_in s a = slice_index_or s.annotations a (annotation 0 0)
 
 -- a type of one alternative; a plain type's number is looked at first
 abbrev pub made : List Row → Alt → RowsOutcome
-made rows x = cond (plainly x) (single rows x) (Turned-down 4)
+made rows x = cond (plainly x) (single rows x) (turned_down 4)
 
 abbrev pub type_answer : RowsOutcome → Answer
 type_answer (granted g) = type_is g.number
-type_answer (Turned-down n) = refused n
+type_answer (turned_down n) = refused n
 
 abbrev pub rows_after : List Row → RowsOutcome → List Row
 rows_after rows (granted g) = g.rows
-rows_after rows (Turned-down n) = rows
+rows_after rows (turned_down n) = rows
 
 abbrev pub annotation_answer : CompileOutcome → Answer
-annotation_answer (entered-as e) = annotation_is e.number
+annotation_answer (entered_as e) = annotation_is e.number
 annotation_answer (not_entered n) = refused n
 
 abbrev pub after_entry : State → CompileOutcome → State
-after_entry s (entered-as e) = with_annotations s e.nodes e.list
+after_entry s (entered_as e) = with_annotations s e.nodes e.list
 after_entry s (not_entered n) = s
 
 module _ (c : Custom) (shares : Bool) where

@@ -1,7 +1,7 @@
 // The calls and questions on compiled annotations.
 ghost use Rattle.std.specs.Prelude.{◌≡◌, ◌<◌, [], ◌∷◌, ◌++◌, length, IfOk, nat_le};
 ghost use Rattle.compiling.specs.Limits.{most_annotations};
-ghost use Rattle.compiling.specs.Outcomes.{annotation as newEntry};
+ghost use Rattle.compiling.specs.Outcomes.{annotation as entry_of};
 ghost use Rattle.type_compiled.specs.Compiled.{annotations_of, annotation_says};
 
 use crate::annotations::{Annotations, TypeCompiled};
@@ -60,7 +60,7 @@ impl Annotations {
     // Adds an annotation where there is a place.
     pub(crate) fn enter(&mut self, ty: usize, root: usize) -> TypeCompiled
         requires { length (annotations_of self.old) < most_annotations }
-        ensures list { annotations_of self.new ≡ annotations_of self.old ++ newEntry ty root ∷ [] }
+        ensures list { annotations_of self.new ≡ annotations_of self.old ++ entry_of ty root ∷ [] }
         ensures number { result.0 ≡ length (annotations_of self.old) }
     {
         let number = self.count();

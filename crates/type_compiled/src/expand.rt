@@ -7,7 +7,7 @@ ghost use Rattle.typing.specs.Held.{rows_of, pool_of};
 ghost use Rattle.typing.specs.View.{alt, pooled};
 ghost use Rattle.typing.specs.declared.basic.TyBasic.TheVariants.{Tuple};
 ghost use Rattle.compiling.specs.Written.{is_none};
-ghost use Rattle.compiling.specs.Code.{value_op, item_op, beside_none_op, leaf as leafOp};
+ghost use Rattle.compiling.specs.Code.{value_op, item_op, beside_none_op, leaf as leaf_op};
 ghost use Rattle.compiling.specs.Tasks.{expand, expand_union, expand_two, expand_none_or, expand_basic, expand_list, expand_set, expand_dict, elems_by, expand_pair, expand_tuple_of, expand_alternatives, expand_elements, item_task, each_task, leaf_task, Fine};
 ghost use Rattle.compiling.specs.declared.tasks.Op.TheVariants.{Write};
 
@@ -190,7 +190,7 @@ fn tuple_matcher(types: &Types, t: usize, i: usize, tuple: TyTuple) -> Expansion
 }
 
 fn custom_matcher<C: TyCustom>(customs: &C, number: u16) -> Op
-    ensures { result ≡ (if (C.TyCustom.custom customs.now).wild number then leafOp IsAny else Write CustomKind number 0) }
+    ensures { result ≡ (if (C.TyCustom.custom customs.now).wild number then leaf_op IsAny else Write CustomKind number 0) }
 {
     if customs.is_wildcard(number) {
         Op::Write(Kind::IsAny, 0, 0)

@@ -41,10 +41,10 @@ missing_row (r ∷ t) zero l = absurd (omega arith)
 missing_row (r ∷ t) (suc n) l = missing_row t n (omega arith)
 
 pub says_there : (t : List Row) (n : ℕ) (f : Row → ℕ) (x : ℕ) → n < length t → x ≡ f (row t n) → ◌≡◌ {A = Result ℕ Refusal} (Ok x) (type_says t n f)
-says_there t n f x l e = rw (lt-ltb n (length t) l) (ap (λ (y : ℕ). ◌ok y) e)
+says_there t n f x l e = rw (lt-ltb n (length t) l) (ap (λ (y : ℕ). ok_of y) e)
   where
-    ◌ok : ℕ → Result ℕ Refusal
-    ◌ok y = Ok y
+    ok_of : ℕ → Result ℕ Refusal
+    ok_of y = Ok y
 
 pub says_missing : (t : List Row) (n : ℕ) (f : Row → ℕ) → length t ≤ n → ◌≡◌ {A = Result ℕ Refusal} (Err NoType) (type_says t n f)
 says_missing t n f l = rw (le-ltb n (length t) l) refl

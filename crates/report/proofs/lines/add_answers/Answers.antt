@@ -14,7 +14,8 @@ loop-answer-preserved c =
     let before = string_bytes c.args.text.now in
     let none : Answer = record { annotation = 0; value = 0; says = Ok false } in
     let line = answer_text (get_or xs i none) ++ (10 ∷ []) in
-    c.in-Ok.ensures.bytes
+    c.in_ok-push_str.ensures.bytes
+    ∙ ap (λ (bs : List ℕ). string_bytes c.loop-answer.text ++ bs) (c.as_str.ensures.value ∙ c.in_ok-line.ensures.ok)
     ∙ ap (λ (bs : List ℕ). bs ++ line) c.loop-answer.invariant
     ∙ append_assoc before (answer_lines (take i xs)) line
     ∙ ap (λ (bs : List ℕ). before ++ bs) (sym (lines_more xs i none c.loop-answer-test.true))

@@ -8,7 +8,7 @@ use Rattle.custom.specs.declared.entries.Range.{Range}
 use Rattle.custom.specs.declared.marks.Marks.{Marks}
 use Rattle.custom.specs.declared.ranges.Ranges.{Ranges}
 use Rattle.custom.specs.declared.pair.Pair.{Pair}
-use Rattle.working_set.specs.Sets.{state_of as setState}
+use Rattle.working_set.specs.Sets.{state_of as set_state}
 use Rattle.matcher.specs.Nodes.{Node}
 use Rattle.matcher.specs.Held.{sharing_nodes, sharing_limit}
 use Rattle.membership.specs.Rows.{start}
@@ -64,6 +64,6 @@ returns c =
     let is = c.in_ok-set.ensures in
     let k : one (marks_in set.customs.first) (ranges_in set.customs.second) ≡ job_custom s = ap (λ (p : Both). one (marks_in p.first) (ranges_in p.second)) is.1 ∙ e in
     let f = is.0 ∙ ap (λ (n : ℕ). set_over (job_cells s) n texts) (c.in-Ok.ensures.limit ∙ l) in
-    let asked = asked_of s (one (marks_in set.customs.first) (ranges_in set.customs.second)) (setState (λ j. job_cells (job_bytes j)) sharing_nodes sharing_limit set) texts c.deref.result.now (vec_items c.in_ok-ask.field-0) k f (c.deref.ensures.value ∙ c.in_ok-queries.ensures) c.in_ok-ask.ensures in
+    let asked = asked_of s (one (marks_in set.customs.first) (ranges_in set.customs.second)) (set_state (λ j. job_cells (job_bytes j)) sharing_nodes sharing_limit set) texts c.deref.result.now (vec_items c.in_ok-ask.field-0) k f (c.deref.ensures.value ∙ c.in_ok-queries.ensures) c.in_ok-ask.ensures in
     let by = answered_by_calls s c.requires texts all (vec_items c.in_ok-ask.field-0) asked in
     record { reports = answered s (vec_items c.in_ok-ask.field-0) by; by_calls = by }

@@ -3,7 +3,7 @@ use Rattle.std.proofs.lemmas.Bool.{leb-true}
 use Rattle.matcher.specs.Nodes.{Node, node, all_below, is_granted, valid, used, places}
 use Rattle.matcher.specs.Tables.{nodes_of, spans, Deep}
 use Rattle.matcher.specs.declared.rows.Row.{Row}
-use Rattle.matcher.proofs.Grows.{granted, valid_push, used-push}
+use Rattle.matcher.proofs.Grows.{granted, valid_push, used_push}
 use Rattle.matcher.proofs.Flats.{long, nodes_push, spans_push, deep_push}
 use Rattle.matcher.proofs.rows.Table.add.Goals as goal
 
@@ -77,7 +77,7 @@ invariant_of-self c =
       granted = subst (λ x. valid s.limit x ≡ true) (sym (nodes c)) (valid_after c);
       small = s.small;
       within = subst (λ x. spans (vec_len c.extend_from_slice.new.self) x ≡ true) (sym e) (spans_after c);
-      taken = ap used (nodes c) ∙ omega (arith, used-push (ns c) (made c), s.taken, count c, c.push_reserved.ensures.len);
+      taken = ap used (nodes c) ∙ omega (arith, used_push (ns c) (made c), s.taken, count c, c.push_reserved.ensures.len);
       deep = subst (λ x. Deep x (nodes_of (vec_items c.push_reserved.new.self) (vec_items c.extend_from_slice.new.self))) (sym e) (subst (Deep (rs c ++ row c ∷ [])) (sym (nodes c)) (deep_after c));
       rows_reserved = omega (arith, s.rows_reserved, c.push_reserved.ensures.capacity);
       pool_reserved = omega (arith, s.pool_reserved, c.extend_from_slice.ensures.capacity);
