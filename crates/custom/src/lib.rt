@@ -2,6 +2,8 @@
 #![tactic(auto)]
 
 pub mod entries;
+pub mod entry;
+pub mod list;
 pub mod making;
 pub mod marks;
 pub mod pair;

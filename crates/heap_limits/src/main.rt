@@ -10,55 +10,53 @@ use custom::ranges::Ranges;
 use custom::ty_custom::TyCustom;
 use nones::Nones;
 use std::alloc::{AllocError, Global};
+use std::fmt::Display;
+use values::built_in::BuiltIn;
 use values::empty::EmptyHeap;
+use values::head::Head;
 use values::heap::Heap;
 use values::live::LiveHeap;
 use values::refusal::Refusal;
 use values::value::Value;
 
-const LIST: u16 = 5;
+fn head(ty: u16, flags: u8, mark: i64) -> Head {
+    Head { ty, flags, mark }
+}
 
-const DICT: u16 = 6;
+fn int(mark: i64) -> Head {
+    head(u16::from(BuiltIn::Int), 0, mark)
+}
 
-const SET: u16 = 7;
+// None or a str.
+fn bare(ty: BuiltIn) -> Head {
+    head(u16::from(ty), 0, 0)
+}
 
-const TUPLE: u16 = 8;
+// A list, a dict, a set or a tuple.
+fn holder(ty: BuiltIn) -> Head {
+    head(u16::from(ty), 2, 0)
+}
 
-// A value's number, or the refusal.
-fn made(heap: Global, r: Result<Value, Refusal>) -> Result<String, AllocError> {
+// What a call answers, or its refusal.
+fn shown<T: Display + Drop>(heap: Global, r: Result<T, Refusal>) -> Result<String, AllocError> {
     match r {
-        Ok(Value(n)) => format!(in heap; "{n}"),
-        Err(e) => refused(heap, e),
+        Ok(x) => format!(in heap; "{x}"),
+        Err(why) => format!(in heap; "refused {why}"),
     }
 }
 
-fn done(heap: Global, r: Result<(), Refusal>) -> Result<String, AllocError> {
-    match r {
-        Ok(_) => format!(in heap; "done"),
-        Err(e) => refused(heap, e),
-    }
-}
-
-fn told(heap: Global, r: Result<bool, Refusal>) -> Result<String, AllocError> {
-    match r {
-        Ok(b) => format!(in heap; "{b}"),
-        Err(e) => refused(heap, e),
-    }
-}
-
-fn refused(heap: Global, e: Refusal) -> Result<String, AllocError> {
-    let n = e.code();
-    format!(in heap; "refused {n}")
+fn done(_nothing: ()) -> &'static str {
+    "done"
 }
 
 // 256 own cells, and no 257th.
 fn many_cells(rt: HostRuntime, heap: Global) -> anyhow::Result<()> {
     let mut live = LiveHeap::over(heap, EmptyHeap)?;
     for i in 0..255 {
-        let _ = live.new(1, 0, i, &[]);
+        let _ = live.new(int(i), &[]);
     }
-    let last = made(heap, live.new(1, 0, 255, &[]))?;
-    let next = made(heap, live.new(3, 0, 0, &[]))?;
+    let last = shown(heap, live.new(int(255), &[]))?;
+    let next = shown(heap, live.new(bare(BuiltIn::NoneType), &[]))?;
     let count = live.count();
     println!(rt; "cells: last {last}, next {next}, count {count}")?;
     Ok(())
@@ -67,14 +65,14 @@ fn many_cells(rt: HostRuntime, heap: Global) -> anyhow::Result<()> {
 // 2,048 own parts, and no 2,049th.
 fn many_parts(rt: HostRuntime, heap: Global) -> anyhow::Result<()> {
     let mut live = LiveHeap::over(heap, EmptyHeap)?;
-    let first = made(heap, live.new(3, 0, 0, &[]))?;
+    let first = shown(heap, live.new(bare(BuiltIn::NoneType), &[]))?;
     let parts = [Value(0); 512];
     for _ in 0..3 {
-        let _ = live.new(LIST, 2, 0, &parts);
+        let _ = live.new(holder(BuiltIn::List), &parts);
     }
-    let last = made(heap, live.new(LIST, 2, 0, &parts))?;
-    let one = made(heap, live.new(LIST, 2, 0, &[Value(0)]))?;
-    let empty = made(heap, live.new(LIST, 2, 0, &[]))?;
+    let last = shown(heap, live.new(holder(BuiltIn::List), &parts))?;
+    let one = shown(heap, live.new(holder(BuiltIn::List), &[Value(0)]))?;
+    let empty = shown(heap, live.new(holder(BuiltIn::List), &[]))?;
     println!(rt; "parts: {first}, last {last}, one more {one}, none more {empty}")?;
     Ok(())
 }
@@ -86,8 +84,8 @@ fn over_many(rt: HostRuntime, heap: Global, below: usize) -> anyhow::Result<()> 
         return Ok(());
     };
     let mut live = LiveHeap::over(heap, nones)?;
-    let first = made(heap, live.new(3, 0, 0, &[]))?;
-    let second = made(heap, live.new(3, 0, 0, &[]))?;
+    let first = shown(heap, live.new(bare(BuiltIn::NoneType), &[]))?;
+    let second = shown(heap, live.new(bare(BuiltIn::NoneType), &[]))?;
     let count = live.count();
     println!(rt; "below: {below}, first {first}, second {second}, count {count}")?;
     Ok(())
@@ -96,15 +94,15 @@ fn over_many(rt: HostRuntime, heap: Global, below: usize) -> anyhow::Result<()> 
 // What `new` refuses: a part that does not stand first, then the form.
 fn forms(rt: HostRuntime, heap: Global) -> anyhow::Result<()> {
     let mut live = LiveHeap::over(heap, EmptyHeap)?;
-    let itself = made(heap, live.new(LIST, 2, 0, &[Value(0)]))?;
-    let both = made(heap, live.new(9, 0, 0, &[Value(7)]))?;
-    let nine = made(heap, live.new(9, 0, 0, &[]))?;
-    let big = made(heap, live.new(1, 8, 0, &[]))?;
-    let marked = made(heap, live.new(1, 8, 1, &[]))?;
-    let two = made(heap, live.new(2, 0, 2, &[]))?;
-    let odd = made(heap, live.new(DICT, 2, 0, &[Value(0)]))?;
-    let host = made(heap, live.new(16, 7, -1, &[]))?;
-    let flagged = made(heap, live.new(16, 8, 0, &[]))?;
+    let itself = shown(heap, live.new(holder(BuiltIn::List), &[Value(0)]))?;
+    let both = shown(heap, live.new(head(9, 0, 0), &[Value(7)]))?;
+    let nine = shown(heap, live.new(head(9, 0, 0), &[]))?;
+    let big = shown(heap, live.new(head(1, 8, 0), &[]))?;
+    let marked = shown(heap, live.new(head(1, 8, 1), &[]))?;
+    let two = shown(heap, live.new(head(2, 0, 2), &[]))?;
+    let odd = shown(heap, live.new(holder(BuiltIn::Dict), &[Value(0)]))?;
+    let host = shown(heap, live.new(head(16, 7, -1), &[]))?;
+    let flagged = shown(heap, live.new(head(16, 8, 0), &[]))?;
     println!(rt;
         "forms: itself {itself}, both {both}, nine {nine}, big {big}, marked {marked}, two {two}, odd {odd}, host {host}, flagged {flagged}"
     )?;
@@ -114,32 +112,32 @@ fn forms(rt: HostRuntime, heap: Global) -> anyhow::Result<()> {
 // What `put` does and refuses, before and after `freeze`.
 fn puts(rt: HostRuntime, heap: Global) -> anyhow::Result<()> {
     let mut live = LiveHeap::over(heap, EmptyHeap)?;
-    let none = made(heap, live.new(3, 0, 0, &[]))?;
-    let list = made(heap, live.new(LIST, 2, 0, &[Value(0)]))?;
-    let dict = made(heap, live.new(DICT, 2, 0, &[Value(0), Value(0)]))?;
-    let set = made(heap, live.new(SET, 2, 0, &[Value(0)]))?;
-    let tuple = made(heap, live.new(TUPLE, 2, 0, &[Value(0)]))?;
+    let none = shown(heap, live.new(bare(BuiltIn::NoneType), &[]))?;
+    let list = shown(heap, live.new(holder(BuiltIn::List), &[Value(0)]))?;
+    let dict = shown(heap, live.new(holder(BuiltIn::Dict), &[Value(0), Value(0)]))?;
+    let set = shown(heap, live.new(holder(BuiltIn::Set), &[Value(0)]))?;
+    let tuple = shown(heap, live.new(holder(BuiltIn::Tuple), &[Value(0)]))?;
     println!(rt; "made: {none} {list} {dict} {set} {tuple}")?;
-    let holds = done(heap, live.put(Value(1), 0, Value(1)))?;
-    let part = made(heap, live.part(Value(1), 0))?;
-    let key = done(heap, live.put(Value(2), 0, Value(1)))?;
-    let value = done(heap, live.put(Value(2), 1, Value(1)))?;
-    let place = done(heap, live.put(Value(2), 2, Value(1)))?;
+    let holds = shown(heap, live.put(Value(1), 0, Value(1)).map(done))?;
+    let part = shown(heap, live.part(Value(1), 0))?;
+    let key = shown(heap, live.put(Value(2), 0, Value(1)).map(done))?;
+    let value = shown(heap, live.put(Value(2), 1, Value(1)).map(done))?;
+    let place = shown(heap, live.put(Value(2), 2, Value(1)).map(done))?;
     println!(rt; "put: itself {holds}, part {part}, key {key}, value {value}, place {place}")?;
-    let in_set = done(heap, live.put(Value(3), 0, Value(1)))?;
-    let in_tuple = done(heap, live.put(Value(4), 0, Value(1)))?;
-    let missing = done(heap, live.put(Value(5), 0, Value(1)))?;
-    let unknown = done(heap, live.put(Value(1), 0, Value(5)))?;
+    let in_set = shown(heap, live.put(Value(3), 0, Value(1)).map(done))?;
+    let in_tuple = shown(heap, live.put(Value(4), 0, Value(1)).map(done))?;
+    let missing = shown(heap, live.put(Value(5), 0, Value(1)).map(done))?;
+    let unknown = shown(heap, live.put(Value(1), 0, Value(5)).map(done))?;
     println!(rt; "put: set {in_set}, tuple {in_tuple}, missing {missing}, unknown {unknown}")?;
     live.freeze();
-    let after = done(heap, live.put(Value(1), 0, Value(0)))?;
-    let key_after = done(heap, live.put(Value(2), 0, Value(0)))?;
-    let late = made(heap, live.new(LIST, 2, 0, &[Value(1)]))?;
-    let free = done(heap, live.put(Value(5), 0, Value(5)))?;
+    let after = shown(heap, live.put(Value(1), 0, Value(0)).map(done))?;
+    let key_after = shown(heap, live.put(Value(2), 0, Value(0)).map(done))?;
+    let late = shown(heap, live.new(holder(BuiltIn::List), &[Value(1)]))?;
+    let free = shown(heap, live.put(Value(5), 0, Value(5)).map(done))?;
     println!(rt; "frozen: put {after}, key {key_after}, new {late}, put there {free}")?;
-    let old = told(heap, live.is_frozen(Value(4)))?;
-    let new = told(heap, live.is_frozen(Value(5)))?;
-    let none = told(heap, live.is_frozen(Value(6)))?;
+    let old = shown(heap, live.is_frozen(Value(4)))?;
+    let new = shown(heap, live.is_frozen(Value(5)))?;
+    let none = shown(heap, live.is_frozen(Value(6)))?;
     println!(rt; "frozen: old {old}, new {new}, missing {none}")?;
     Ok(())
 }
@@ -147,12 +145,12 @@ fn puts(rt: HostRuntime, heap: Global) -> anyhow::Result<()> {
 // A live heap over a live heap: all of the lower one is frozen for it.
 fn over_live(rt: HostRuntime, heap: Global) -> anyhow::Result<()> {
     let mut lower = LiveHeap::over(heap, EmptyHeap)?;
-    let a = made(heap, lower.new(4, 0, 0, &[]))?;
-    let b = made(heap, lower.new(LIST, 2, 0, &[Value(0)]))?;
+    let a = shown(heap, lower.new(bare(BuiltIn::Str), &[]))?;
+    let b = shown(heap, lower.new(holder(BuiltIn::List), &[Value(0)]))?;
     let mut live = LiveHeap::over(heap, lower)?;
-    let c = made(heap, live.new(LIST, 2, 0, &[Value(1)]))?;
-    let low = done(heap, live.put(Value(1), 0, Value(2)))?;
-    let own = done(heap, live.put(Value(2), 0, Value(2)))?;
+    let c = shown(heap, live.new(holder(BuiltIn::List), &[Value(1)]))?;
+    let low = shown(heap, live.put(Value(1), 0, Value(2)).map(done))?;
+    let own = shown(heap, live.put(Value(2), 0, Value(2)).map(done))?;
     println!(rt; "over live: {a} {b} {c}, put below {low}, put own {own}")?;
     Ok(())
 }
@@ -176,10 +174,10 @@ fn customs(rt: HostRuntime, heap: Global) -> anyhow::Result<()> {
     println!(rt; "customs: {count}")?;
     for n in 0..5 {
         let wild = answer(pair.is_wildcard(n));
-        let zero = answer(pair.matches(n, 1, 0, 0));
-        let big = answer(pair.matches(n, 1, 8, 0));
-        let low = answer(pair.matches(n, 1, 0, -2));
-        let text = answer(pair.matches(n, 4, 0, 0));
+        let zero = answer(pair.matches(n, int(0)));
+        let big = answer(pair.matches(n, head(1, 8, 0)));
+        let low = answer(pair.matches(n, int(-2)));
+        let text = answer(pair.matches(n, bare(BuiltIn::Str)));
         println!(rt; "custom {n}: wildcard {wild}, 0 {zero}, big {big}, -2 {low}, str {text}")?;
     }
     Ok(())

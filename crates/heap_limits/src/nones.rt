@@ -4,12 +4,19 @@ ghost use Rattle.std.proofs.Common.{arith};
 ghost use Rattle.heap_limits.specs.Alike.{count_is, all_formed};
 ghost use Rattle.heap_limits.specs.Alike;
 
+use values::head::Head;
 use values::heap::Heap;
 use values::refusal::Refusal;
 use values::value::Value;
 
 // The most cells that a heap has.
 const MOST: usize = 65536;
+
+const NONE: Head = Head {
+    ty: 3,
+    flags: 0,
+    mark: 0,
+};
 
 // A heap of so many None cells, to stand below a live heap.
 #[derive(Drop)]
@@ -43,25 +50,9 @@ impl Heap for Nones {
         self.count
     }
 
-    fn starlark_type_id(&self, v: Value) -> Result<u16, Refusal> {
+    fn head(&self, v: Value) -> Result<Head, Refusal> {
         if v.0 < self.count {
-            Ok(3)
-        } else {
-            Err(Refusal::NoValue)
-        }
-    }
-
-    fn flags(&self, v: Value) -> Result<u8, Refusal> {
-        if v.0 < self.count {
-            Ok(0)
-        } else {
-            Err(Refusal::NoValue)
-        }
-    }
-
-    fn mark(&self, v: Value) -> Result<i64, Refusal> {
-        if v.0 < self.count {
-            Ok(0)
+            Ok(NONE)
         } else {
             Err(Refusal::NoValue)
         }
@@ -77,37 +68,5 @@ impl Heap for Nones {
 
     fn part(&self, _v: Value, _i: usize) -> Result<Value, Refusal> {
         Err(Refusal::NoValue)
-    }
-
-    fn is_none(&self, v: Value) -> Result<bool, Refusal> {
-        if v.0 < self.count {
-            Ok(true)
-        } else {
-            Err(Refusal::NoValue)
-        }
-    }
-
-    fn unpack_bool(&self, v: Value) -> Result<Option<i64>, Refusal> {
-        if v.0 < self.count {
-            Ok(None)
-        } else {
-            Err(Refusal::NoValue)
-        }
-    }
-
-    fn unpack_str(&self, v: Value) -> Result<Option<i64>, Refusal> {
-        if v.0 < self.count {
-            Ok(None)
-        } else {
-            Err(Refusal::NoValue)
-        }
-    }
-
-    fn unpack_int(&self, v: Value) -> Result<Option<i64>, Refusal> {
-        if v.0 < self.count {
-            Ok(None)
-        } else {
-            Err(Refusal::NoValue)
-        }
     }
 }

@@ -1,4 +1,3 @@
 mod Numbers
 pub mod Eaches
 pub mod Says
-pub mod Forms

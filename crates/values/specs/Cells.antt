@@ -2,6 +2,7 @@
 use Rattle.std.specs.Prelude.{◌≡◌, ℕ, ◌%◌, ◌<◌, Bool, true, cond, ◌&&◌, ◌||◌, List, [], ◌∷◌, length, ℤ, pos, Some, None, Ok, Err, Option, Result, ◌==◌, int_le, nat_le, nat_lt, slice_index, slice_index_or}
 use Rattle.values.specs.declared.refusal.Refusal.{Refusal}
 use Rattle.values.specs.declared.value.Value.{Value}
+use Rattle.values.specs.declared.head.Head.{Head}
 use Rattle.values.specs.Values.{value}
 use Rattle.values.specs.declared.refusal.Refusal.TheVariants.{NoValue}
 
@@ -84,6 +85,12 @@ Formed cs = (v : ℕ) → v < length cs → well_formed (cell_at cs v) ≡ true
 -- an answer read off the cell v, or refusal 3
 abbrev pub cell_says : {X : Type 0} → List Cell → ℕ → (Cell → X) → Result X Refusal
 cell_says cs v f = cond (nat_lt v (length cs)) (Ok (f (cell_at cs v))) (Err NoValue)
+
+abbrev pub head_of : Cell → Head
+head_of c = record { ty = c.ty; flags = c.flags; mark = c.mark }
+
+abbrev pub head_mark_if : ℕ → Head → Option ℤ
+head_mark_if t h = cond (h.ty == t) (Some h.mark) None
 
 -- the mark of a cell of type t
 abbrev pub mark_if_lem : ℕ → Cell → Option ℤ

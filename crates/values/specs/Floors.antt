@@ -42,10 +42,10 @@ Parted n c = Below n c.parts
 
 module _ {H : Type 0} (cells : H → List Cell) (l : LiveHeap H) where
   own : List Own
-  own = vec_items l.own
+  own = vec_items l.own.rows
 
   pool : List ℕ
-  pool = vec_items l.pool
+  pool = vec_items l.own.pool
 
   lower : List Cell
   lower = cells l.below
@@ -53,24 +53,24 @@ module _ {H : Type 0} (cells : H → List Cell) (l : LiveHeap H) where
   all : List Cell
   all = live_cells cells l
 
-  pub length_live : length (live_cells cells l) ≡ l.base + vec_len l.own
+  pub length_live : length (live_cells cells l) ≡ l.base + vec_len l.own.rows
   unfolding own pool lower all
-  length_live = omega (arith, length-append (floor l.base lower) (cells_of own pool), length_floor l.base lower, length-map own (cell_of pool), l.own.ok.0)
+  length_live = omega (arith, length-append (floor l.base lower) (cells_of own pool), length_floor l.base lower, length-map own (cell_of pool), l.own.rows.ok.0)
 
-  pub inside : Within (length (vec_items l.pool)) (vec_items l.own)
-  inside = within (vec_items l.own) (length (vec_items l.pool)) l.laid l.full
+  pub inside : Within (length (vec_items l.own.pool)) (vec_items l.own.rows)
+  inside = within (vec_items l.own.rows) (length (vec_items l.own.pool)) l.own.laid l.own.full
 
   at_below : (v : ℕ) → v < l.base → cell_at (live_cells cells l) v ≡ cell_at (floor l.base (cells l.below)) v
   unfolding own pool lower all
   at_below v h = get_or_append_left (floor l.base lower) (cells_of own pool) no_cell v (omega (arith, length_floor l.base lower))
 
-  pub at_own : (v : ℕ) → l.base ≤ v → cell_at (live_cells cells l) v ≡ cell_at (cells_of (vec_items l.own) (vec_items l.pool)) (v - l.base)
+  pub at_own : (v : ℕ) → l.base ≤ v → cell_at (live_cells cells l) v ≡ cell_at (cells_of (vec_items l.own.rows) (vec_items l.own.pool)) (v - l.base)
   unfolding own pool lower all
   at_own v h = get_or-append_right (floor l.base lower) (cells_of own pool) l.base v no_cell (length_floor l.base lower) h
 
-  pub at_row : (v : ℕ) → l.base ≤ v → v - l.base < vec_len l.own → cell_at (live_cells cells l) v ≡ cell_of (vec_items l.pool) (slice_index_or (vec_items l.own) (v - l.base) no_own)
+  pub at_row : (v : ℕ) → l.base ≤ v → v - l.base < vec_len l.own.rows → cell_at (live_cells cells l) v ≡ cell_of (vec_items l.own.pool) (slice_index_or (vec_items l.own.rows) (v - l.base) no_own)
   unfolding own pool lower all
-  at_row v h k = at_own v h ∙ get_or-map (cell_of pool) own (v - l.base) no_own no_cell (omega (arith, l.own.ok.0))
+  at_row v h k = at_own v h ∙ get_or-map (cell_of pool) own (v - l.base) no_own no_cell (omega (arith, l.own.rows.ok.0))
 
   pub lies_lower : (v : ℕ) → v < l.base → length (cells l.below) ≡ l.base → Lies (live_cells cells l) v (cell_at (cells l.below) v)
   lies_lower v h e = record { within = omega (arith, length_live); is = at_below v h ∙ ap (λ cs. cell_at cs v) (floor_whole l.base (cells l.below) e) }
@@ -78,20 +78,20 @@ module _ {H : Type 0} (cells : H → List Cell) (l : LiveHeap H) where
   pub lies_none : (v : ℕ) → v < l.base → (length (cells l.below) ≢ l.base) → Lies (live_cells cells l) v none_cell
   lies_none v h ne = record { within = omega (arith, length_live); is = at_below v h ∙ floor_none l.base (cells l.below) v ne h }
 
-  pub lies_own : (v : ℕ) → l.base ≤ v → v - l.base < vec_len l.own → Lies (live_cells cells l) v (cell_of (vec_items l.pool) (slice_index_or (vec_items l.own) (v - l.base) no_own))
+  pub lies_own : (v : ℕ) → l.base ≤ v → v - l.base < vec_len l.own.rows → Lies (live_cells cells l) v (cell_of (vec_items l.own.pool) (slice_index_or (vec_items l.own.rows) (v - l.base) no_own))
   lies_own v h k = record { within = omega (arith, length_live); is = at_row v h k }
 
   -- what holds of each cell below, of a None cell and of each own cell holds of all
-  live_each : (P : Cell → Type 0) → P none_cell → (length (cells l.below) ≡ l.base → (v : ℕ) → v < length (cells l.below) → P (cell_at (cells l.below) v)) → ((k : ℕ) → k < length (vec_items l.own) → P (cell_of (vec_items l.pool) (slice_index_or (vec_items l.own) k no_own)))
+  live_each : (P : Cell → Type 0) → P none_cell → (length (cells l.below) ≡ l.base → (v : ℕ) → v < length (cells l.below) → P (cell_at (cells l.below) v)) → ((k : ℕ) → k < length (vec_items l.own.rows) → P (cell_of (vec_items l.own.pool) (slice_index_or (vec_items l.own.rows) k no_own)))
       → (v : ℕ) → v < length (live_cells cells l) → P (cell_at (live_cells cells l) v)
   live_each P none low mine v h = by (cases_lt v l.base)
     where
       by : (v < l.base) ⊎ (l.base ≤ v) → P (cell_at (live_cells cells l) v)
       by (inl lt) = subst P (sym (at_below v lt)) (floor_each P l.base (cells l.below) none low v lt)
-      by (inr ge) = let k : v - l.base < vec_len l.own = omega (arith, length_live) in subst P (sym (at_row v ge k)) (mine (v - l.base) (omega (arith, l.own.ok.0)))
+      by (inr ge) = let k : v - l.base < vec_len l.own.rows = omega (arith, length_live) in subst P (sym (at_row v ge k)) (mine (v - l.base) (omega (arith, l.own.rows.ok.0)))
 
   pub live_formed : Formed (cells l.below) → Formed (live_cells cells l)
-  live_formed low = live_each (λ c. well_formed c ≡ true) none_formed (λ _. low) (λ k h. let o = get_or (vec_items l.own) k no_own in ap (formed o.ty o.flags o.mark) (parts_length (vec_items l.pool) o (inside k h)) ∙ l.shaped k h)
+  live_formed low = live_each (λ c. well_formed c ≡ true) none_formed (λ _. low) (λ k h. let o = get_or (vec_items l.own.rows) k no_own in ap (formed o.head.ty o.head.flags o.head.mark) (parts_length (vec_items l.own.pool) o (inside k h)) ∙ l.own.shaped k h)
 
   pub live_closed : Closed (cells l.below) → Closed (live_cells cells l)
   unfolding Parted
@@ -101,8 +101,8 @@ module _ {H : Type 0} (cells : H → List Cell) (l : LiveHeap H) where
       low : length (cells l.below) ≡ l.base → (w : ℕ) → w < length (cells l.below) → Below (length (live_cells cells l)) (cell_at (cells l.below) w).parts
       low e w q k r = omega (arith, closed w k q r, length_live)
 
-      mine : (k : ℕ) → k < length (vec_items l.own) → Below (length (live_cells cells l)) (cell_of (vec_items l.pool) (slice_index_or (vec_items l.own) k no_own)).parts
+      mine : (k : ℕ) → k < length (vec_items l.own.rows) → Below (length (live_cells cells l)) (cell_of (vec_items l.own.pool) (slice_index_or (vec_items l.own.rows) k no_own)).parts
       mine k q j r =
-          let o = get_or (vec_items l.own) k no_own in
-          let n : j < o.count = omega (arith, parts_length (vec_items l.pool) o (inside k q)) in
-          rw (part_at (vec_items l.pool) o j n) (omega (arith, length_live, l.stand (o.first + j) (omega (arith, inside k q))))
+          let o = get_or (vec_items l.own.rows) k no_own in
+          let n : j < o.count = omega (arith, parts_length (vec_items l.own.pool) o (inside k q)) in
+          rw (part_at (vec_items l.own.pool) o j n) (omega (arith, length_live, l.stand (o.first + j) (omega (arith, inside k q))))

@@ -1,5 +1,6 @@
 pub mod Refusals
 pub mod Values
+pub mod Types
 pub mod Cells
 pub mod Owned
 pub mod Lives

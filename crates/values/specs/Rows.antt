@@ -41,7 +41,7 @@ cell_grows : (pool more : List ℕ) (o : Own) → o.first + o.count ≤ length p
 cell_grows pool more o h =
     let e : take o.count (drop o.first (pool ++ more)) ≡ take o.count (drop o.first pool) =
     ap (take o.count) (drop-append-le o.first pool more (omega arith)) ∙ take-append-le o.count (drop o.first pool) more (omega (arith, length-drop o.first pool)) in
-    ap (cell o.ty o.flags o.mark) e
+    ap (cell o.head.ty o.head.flags o.head.mark) e
 
 map_same : (f g : Own → Cell) (own : List Own) → ((k : ℕ) → k < length own → f (slice_index_or own k no_own) ≡ g (slice_index_or own k no_own)) → map f own ≡ map g own
 map_same f g [] h = refl
@@ -51,11 +51,11 @@ pub cells_grow : (own : List Own) (pool more : List ℕ) → Within (length pool
 cells_grow own pool more w = map_same (cell_of (pool ++ more)) (cell_of pool) own (λ k h. cell_grows pool more (slice_index_or own k no_own) (w k h))
 
 pub new_cells : (own : List Own) (pool parts : List ℕ) (o : Own) → Within (length pool) own → o.first ≡ length pool → o.count ≡ length parts
-    → cells_of (own ++ (o ∷ [])) (pool ++ parts) ≡ cells_of own pool ++ (cell o.ty o.flags o.mark parts ∷ [])
+    → cells_of (own ++ (o ∷ [])) (pool ++ parts) ≡ cells_of own pool ++ (cell o.head.ty o.head.flags o.head.mark parts ∷ [])
 new_cells own pool parts o w f n =
     let e : take o.count (drop o.first (pool ++ parts)) ≡ parts =
     ap (take o.count) (drop_at pool parts o.first (sym f)) ∙ take_all o.count parts (omega arith) in
-    map-append (cell_of (pool ++ parts)) own (o ∷ []) ∙ ap₂ ◌++◌ (cells_grow own pool parts w) (ap (λ ps. cell o.ty o.flags o.mark ps ∷ []) e)
+    map-append (cell_of (pool ++ parts)) own (o ∷ []) ∙ ap₂ ◌++◌ (cells_grow own pool parts w) (ap (λ ps. cell o.head.ty o.head.flags o.head.mark ps ∷ []) e)
 
 total_push : (own : List Own) (o : Own) → total (own ++ (o ∷ [])) ≡ total own + o.count
 unfolding total
@@ -102,14 +102,14 @@ put_below n pool j x h old i l = by (cases_eq i j)
 
 cell_put : (pool : List ℕ) (o : Own) (i x : ℕ) → i < o.count → cell_of (slice_set pool (o.first + i) x) o ≡ changed (cell_of pool o) i x
 cell_put pool o i x h =
-    ap (cell o.ty o.flags o.mark) (ap (take o.count) (drop-set-add o.first pool i x) ∙ take-set-lt o.count (drop o.first pool) i x h)
+    ap (cell o.head.ty o.head.flags o.head.mark) (ap (take o.count) (drop-set-add o.first pool i x) ∙ take-set-lt o.count (drop o.first pool) i x h)
 
 -- a place that is not among the row's parts
 cell_kept : (pool : List ℕ) (o : Own) (j x : ℕ) → (j < o.first) ⊎ (o.first + o.count ≤ j) → cell_of (slice_set pool j x) o ≡ cell_of pool o
-cell_kept pool o j x (inl h) = ap (λ ps. cell o.ty o.flags o.mark (take o.count ps)) (drop-set-lt o.first pool j x h)
+cell_kept pool o j x (inl h) = ap (λ ps. cell o.head.ty o.head.flags o.head.mark (take o.count ps)) (drop-set-lt o.first pool j x h)
 cell_kept pool o j x (inr h) =
     let e : o.first + (j - o.first) ≡ j = omega arith in
-    ap (cell o.ty o.flags o.mark) (ap (λ n. take o.count (drop o.first (slice_set pool n x))) (sym e) ∙ ap (take o.count) (drop-set-add o.first pool (j - o.first) x) ∙ take-set-le o.count (drop o.first pool) (j - o.first) x (omega arith))
+    ap (cell o.head.ty o.head.flags o.head.mark) (ap (λ n. take o.count (drop o.first (slice_set pool n x))) (sym e) ∙ ap (take o.count) (drop-set-add o.first pool (j - o.first) x) ∙ take-set-le o.count (drop o.first pool) (j - o.first) x (omega arith))
 
 pub put_cells : (own : List Own) (pool : List ℕ) (k i x : ℕ) → Laid own → k < length own → i < (get_or own k no_own).count
     → cells_of own (slice_set pool ((get_or own k no_own).first + i) x) ≡ slice_set (cells_of own pool) k (changed (cell_at (cells_of own pool) k) i x)

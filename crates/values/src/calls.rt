@@ -1,29 +1,30 @@
 ghost use Rattle.std.specs.Prelude.{◌≡◌, IfOk};
 ghost use Rattle.values.specs.Lives.{cell, blank_over, new_says, new_leaves, put_says, put_leaves, frozen_all, frozen_says, has_room_lem};
 ghost use Rattle.values.specs.Values.{numbers};
-ghost use Rattle.values.specs.Held.{live_cells, live_of, Seated};
+ghost use Rattle.values.specs.Held.{live_cells, live_of, Found};
 
 use crate::form::{all_below, is_formed, is_settable};
+use crate::head::Head;
 use crate::heap::Heap;
 use crate::live::LiveHeap;
 use crate::own::Own;
+use crate::own_cells::OwnCells;
 use crate::refusal::Refusal;
 use crate::value::Value;
 use std::alloc::{AllocError, Global};
 
 const ALL_CELLS: usize = 65536;
 
-const OWN_CELLS: usize = 256;
-
-const OWN_PARTS: usize = 2048;
-
-// Where a value is found.
-#[derive(Clone, Copy)]
-pub(crate) enum Seat {
-    Lower,
-    Own(Own),
-    Nowhere,
-}
+// What is read below `base` where the heap below has other than `base` cells.
+const NONE: Own = Own {
+    head: Head {
+        ty: 3,
+        flags: 0,
+        mark: 0,
+    },
+    first: 0,
+    count: 0,
+};
 
 impl<H: Heap> LiveHeap<H> {
     // A live heap with no cells of its own; only this call can fail for want of memory.
@@ -32,70 +33,57 @@ impl<H: Heap> LiveHeap<H> {
         H: Drop,
         ensures { IfOk result (λ l. (live_of H.Heap.cells l ≡ blank_over (H.Heap.cells below)) × (l.below ≡ below)) }
     {
-        let own = Vec::with_capacity(heap, OWN_CELLS)?;
-        let pool = Vec::with_capacity(heap, OWN_PARTS)?;
+        let own = OwnCells::new(heap)?;
         let base = below.count();
         Ok(LiveHeap {
             below,
             base,
             own,
-            pool,
             frozen: base,
         })
     }
 
-    pub(crate) fn seat(&self, v: usize) -> Seat
-        ensures { Seated (live_cells H.Heap.cells self.now) (H.Heap.cells self.now.below) self.now.pool.items v result }
+    // The own cell that a value is, or nothing where it is one of those below.
+    pub(crate) fn own_cell(&self, v: Value) -> Result<Option<Own>, Refusal>
+        ensures { Found (live_cells H.Heap.cells self.now) (H.Heap.cells self.now.below) self.now.own.pool.items v.0 result }
     {
-        if v >= self.base {
-            let k = v - self.base;
-            if k < self.own.len() {
-                return Seat::Own(self.own[k]);
+        if v.0 >= self.base {
+            let k = v.0 - self.base;
+            if k < self.own.rows.len() {
+                return Ok(Some(self.own.rows[k]));
             }
-            return Seat::Nowhere;
+            return Err(Refusal::NoValue);
         }
         if self.below.count() == self.base {
-            return Seat::Lower;
+            return Ok(None);
         }
-        Seat::Own(Own {
-            ty: 3,
-            flags: 0,
-            mark: 0,
-            first: 0,
-            count: 0,
-        })
+        Ok(Some(NONE))
     }
 
     // Whether a cell with so many parts has room.
     fn has_room(&self, count: usize) -> bool
         ensures { result ≡ has_room_lem (live_of H.Heap.cells self.now) count }
     {
-        if self.base + self.own.len() >= ALL_CELLS {
-            return false;
-        }
-        if self.own.len() >= OWN_CELLS {
-            return false;
-        }
-        count <= OWN_PARTS - self.pool.len()
+        self.count() < ALL_CELLS && self.own.has_room(count)
     }
 
     // A new cell, whose parts already stand.
-    pub fn new(&mut self, ty: u16, flags: u8, mark: i64, parts: &[Value]) -> Result<Value, Refusal>
-        ensures answer { result ≡ new_says (live_of H.Heap.cells self.old) (cell ty flags mark (numbers parts.now)) }
-        ensures after { live_of H.Heap.cells self.new ≡ new_leaves (live_of H.Heap.cells self.old) (cell ty flags mark (numbers parts.now)) }
+    pub fn new(&mut self, head: Head, parts: &[Value]) -> Result<Value, Refusal>
+        ensures answer { result ≡ new_says (live_of H.Heap.cells self.old) (cell head.ty head.flags head.mark (numbers parts.now)) }
+        ensures after { live_of H.Heap.cells self.new ≡ new_leaves (live_of H.Heap.cells self.old) (cell head.ty head.flags head.mark (numbers parts.now)) }
         ensures below { self.new.below ≡ self.old.below }
     {
-        let n = self.base + self.own.len();
+        let n = self.count();
         if !all_below(parts, n) {
             return Err(Refusal::NoValue);
         }
-        if !is_formed(ty, flags, mark, parts.len()) {
+        if !is_formed(head, parts.len()) {
             return Err(Refusal::BadForm);
         }
         if !self.has_room(parts.len()) {
             return Err(Refusal::NoRoom);
         }
-        self.add(ty, flags, mark, parts);
+        self.own.add(head, parts);
         Ok(Value(n))
     }
 
@@ -116,7 +104,7 @@ impl<H: Heap> LiveHeap<H> {
         if !is_settable(ty, i) {
             return Err(Refusal::NoItem);
         }
-        self.set_part(v.0 - self.base, i, x.0);
+        self.own.set_part(v.0 - self.base, i, x.0);
         Ok(())
     }
 
@@ -125,14 +113,14 @@ impl<H: Heap> LiveHeap<H> {
         ensures after { live_of H.Heap.cells self.new ≡ frozen_all (live_of H.Heap.cells self.old) }
         ensures below { self.new.below ≡ self.old.below }
     {
-        self.frozen = self.base + self.own.len();
+        self.frozen = self.count();
     }
 
     // Whether a value's cell is frozen.
     pub fn is_frozen(&self, v: Value) -> Result<bool, Refusal>
         ensures { result ≡ frozen_says (live_of H.Heap.cells self.now) v.0 }
     {
-        if v.0 < self.base + self.own.len() {
+        if v.0 < self.count() {
             Ok(v.0 < self.frozen)
         } else {
             Err(Refusal::NoValue)

@@ -1,6 +1,7 @@
 ghost use Rattle.std.specs.Prelude.{[]};
 ghost use Rattle.std.proofs.Common.{rules};
 
+use crate::head::Head;
 use crate::heap::Heap;
 use crate::refusal::Refusal;
 use crate::value::Value;
@@ -22,15 +23,7 @@ impl Heap for EmptyHeap {
         0
     }
 
-    fn starlark_type_id(&self, _v: Value) -> Result<u16, Refusal> {
-        Err(Refusal::NoValue)
-    }
-
-    fn flags(&self, _v: Value) -> Result<u8, Refusal> {
-        Err(Refusal::NoValue)
-    }
-
-    fn mark(&self, _v: Value) -> Result<i64, Refusal> {
+    fn head(&self, _v: Value) -> Result<Head, Refusal> {
         Err(Refusal::NoValue)
     }
 
@@ -39,22 +32,6 @@ impl Heap for EmptyHeap {
     }
 
     fn part(&self, _v: Value, _i: usize) -> Result<Value, Refusal> {
-        Err(Refusal::NoValue)
-    }
-
-    fn is_none(&self, _v: Value) -> Result<bool, Refusal> {
-        Err(Refusal::NoValue)
-    }
-
-    fn unpack_bool(&self, _v: Value) -> Result<Option<i64>, Refusal> {
-        Err(Refusal::NoValue)
-    }
-
-    fn unpack_str(&self, _v: Value) -> Result<Option<i64>, Refusal> {
-        Err(Refusal::NoValue)
-    }
-
-    fn unpack_int(&self, _v: Value) -> Result<Option<i64>, Refusal> {
         Err(Refusal::NoValue)
     }
 }
