@@ -12,6 +12,7 @@ use crate::sure::{
 use custom::ty_custom::TyCustom;
 use matcher::alloc::TypeMatcherAlloc;
 use matcher::kind::Kind;
+use values::head::Head;
 use values::heap::Heap;
 use values::value::Value;
 
@@ -110,12 +111,12 @@ fn is_custom<H: Heap, C: TyCustom>(number: u16, v: Value, heap: &H, customs: &C)
     requires { v.0 < length (H.Heap.cells heap.now) }
     ensures { result ≡ (C.TyCustom.custom customs.now).says number (cell_at (H.Heap.cells heap.now) v.0).ty (cell_at (H.Heap.cells heap.now) v.0).flags (cell_at (H.Heap.cells heap.now) v.0).mark }
 {
-    customs.matches(
-        number,
-        type_at(heap, v),
-        flags_at(heap, v),
-        mark_at(heap, v),
-    )
+    let head = Head {
+        ty: type_at(heap, v),
+        flags: flags_at(heap, v),
+        mark: mark_at(heap, v),
+    };
+    customs.matches(number, head)
 }
 
 pub(crate) fn shape_of<H: Heap, S: TypeMatcherAlloc, C: TyCustom>(
