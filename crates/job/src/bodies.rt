@@ -9,6 +9,7 @@ use crate::limits::{
 };
 use job_format::tag::Tag;
 use values::form::is_formed;
+use values::head::Head;
 use values::refusal::Refusal;
 
 // A two-byte number from the place i on.
@@ -74,9 +75,12 @@ pub(crate) fn cell_fault(body: &[u8], cells: usize) -> Option<Refusal>
     if !all_stand(body, cells) {
         return Some(Refusal::NoValue);
     }
-    let ty = two_at(body, 0);
-    let mark = eight_at(body, 3);
-    if !is_formed(ty, body[2], mark, parts_in(body)) {
+    let head = Head {
+        ty: two_at(body, 0),
+        flags: body[2],
+        mark: eight_at(body, 3),
+    };
+    if !is_formed(head, parts_in(body)) {
         return Some(Refusal::BadForm);
     }
     None

@@ -1,6 +1,4 @@
-ghost use Rattle.std.specs.Prelude.{◌≡◌, ◌≤◌, length};
-ghost use Rattle.values.specs.Cells.{mark_if_lem};
-ghost use Rattle.job_format.specs.Limits.{cell_bytes};
+ghost use Rattle.std.specs.Prelude.{◌≡◌};
 ghost use Rattle.job_format.specs.Bodies.{cell_in};
 ghost use Rattle.job_format.specs.Contents.{job_cells};
 ghost use Rattle.job.specs.Held.{job_bytes};
@@ -12,21 +10,10 @@ ghost use Rattle.job_format.proofs.Finding.{few_of, job_formed, job_closed};
 
 use crate::bodies::{eight_at, part_in, parts_in, two_at};
 use crate::verified::Job;
+use values::head::Head;
 use values::heap::Heap;
 use values::refusal::Refusal;
 use values::value::Value;
-
-// The mark of a cell of the type t.
-fn mark_if(body: &[u8], t: u16) -> Option<i64>
-    requires { cell_bytes ≤ length body.now }
-    ensures { result ≡ mark_if_lem t (cell_in body.now) }
-{
-    if two_at(body, 0) == t {
-        Some(eight_at(body, 3))
-    } else {
-        None
-    }
-}
 
 impl Heap for Job {
     ghost cells = { λ j. job_cells (job_bytes j) };
@@ -41,23 +28,13 @@ impl Heap for Job {
         self.cells
     }
 
-    fn starlark_type_id(&self, v: Value) -> Result<u16, Refusal> {
+    fn head(&self, v: Value) -> Result<Head, Refusal> {
         match self.cell(v.0) {
-            Some(body) => Ok(two_at(body, 0)),
-            None => Err(Refusal::NoValue),
-        }
-    }
-
-    fn flags(&self, v: Value) -> Result<u8, Refusal> {
-        match self.cell(v.0) {
-            Some(body) => Ok(body[2]),
-            None => Err(Refusal::NoValue),
-        }
-    }
-
-    fn mark(&self, v: Value) -> Result<i64, Refusal> {
-        match self.cell(v.0) {
-            Some(body) => Ok(eight_at(body, 3)),
+            Some(body) => Ok(Head {
+                ty: two_at(body, 0),
+                flags: body[2],
+                mark: eight_at(body, 3),
+            }),
             None => Err(Refusal::NoValue),
         }
     }
@@ -77,34 +54,6 @@ impl Heap for Job {
                 }
                 Err(Refusal::NoValue)
             }
-            None => Err(Refusal::NoValue),
-        }
-    }
-
-    fn is_none(&self, v: Value) -> Result<bool, Refusal> {
-        match self.cell(v.0) {
-            Some(body) => Ok(two_at(body, 0) == 3),
-            None => Err(Refusal::NoValue),
-        }
-    }
-
-    fn unpack_bool(&self, v: Value) -> Result<Option<i64>, Refusal> {
-        match self.cell(v.0) {
-            Some(body) => Ok(mark_if(body, 2)),
-            None => Err(Refusal::NoValue),
-        }
-    }
-
-    fn unpack_str(&self, v: Value) -> Result<Option<i64>, Refusal> {
-        match self.cell(v.0) {
-            Some(body) => Ok(mark_if(body, 4)),
-            None => Err(Refusal::NoValue),
-        }
-    }
-
-    fn unpack_int(&self, v: Value) -> Result<Option<i64>, Refusal> {
-        match self.cell(v.0) {
-            Some(body) => Ok(mark_if(body, 1)),
             None => Err(Refusal::NoValue),
         }
     }

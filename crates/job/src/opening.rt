@@ -32,7 +32,7 @@ impl JobFault {
             },
             JobFault::Cell(record, why) => Report {
                 record,
-                number: why.code(),
+                number: u8::from(why),
                 byte: 0,
             },
         }
