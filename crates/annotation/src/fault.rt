@@ -38,7 +38,7 @@ impl TextFault {
     {
         match self {
             TextFault::Outside(_) => OUTSIDE,
-            TextFault::Call(why, _) => why.code(),
+            TextFault::Call(why, _) => u8::from(why),
         }
     }
 
