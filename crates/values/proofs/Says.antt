@@ -1,6 +1,6 @@
 -- What `new` and `put` answer and leave, by their tests. Assumes nothing.
-use Rattle.std.proofs.Common.{◌≡◌, ℕ, ◌+◌, ◌-◌, ◌<◌, ◌≤◌, Bool, true, false, cond, ◌&&◌, ltb, leb, List, ◌++◌, length, get_or, drop, set, is_ok, Ok, Err, vec_items, vec_len, Result, sym, refl, ap, ◌∙◌, subst, arith}
-use Rattle.std.proofs.lemmas.Bool.{and_from, and_parts, lt-ltb, le-ltb, ltb-true, leb-true, cond-true, cond-false}
+use Rattle.std.proofs.Common.{◌≡◌, ℕ, ◌+◌, ◌-◌, ◌<◌, ◌≤◌, Bool, true, false, cond, ◌&&◌, ltb, leb, List, ◌++◌, length, get_or, drop, set, is_ok, Ok, Err, vec_items, vec_len, Result, sym, refl, ap, ◌∙◌, arith}
+use Rattle.std.proofs.lemmas.Bool.{and_parts, lt-ltb, le-ltb, ltb-true, leb-true}
 use Rattle.std.proofs.lemmas.Bool.Decides.{nat_tests}
 use Rattle.std.proofs.lemmas.List.{set-append_right, drop_at}
 use Rattle.values.specs.Cells.{Cell, cell_at, cell_says, cell_part, most}
@@ -8,19 +8,13 @@ use Rattle.values.specs.Values.{value}
 use Rattle.values.specs.declared.value.Value.{Value}
 use Rattle.values.specs.Owned.{cells_of}
 use Rattle.values.specs.Lives.{Live, parts_in, has_room_lem, put_says, put_leaves, put, settable, changed}
-use Rattle.values.specs.Held.{floor, own_cells, live_cells, live_of, Lies}
+use Rattle.values.specs.Held.{floor, own_cells, live_cells, live_of}
 use Rattle.values.specs.declared.own_cells.OwnCells.{OwnCells}
 use Rattle.values.specs.declared.live.LiveHeap.{LiveHeap}
 use Rattle.values.specs.declared.refusal.Refusal.{Refusal}
 use Rattle.values.specs.declared.refusal.Refusal.TheVariants.{NoValue, Frozen, NoItem}
 use Rattle.values.specs.Rows.{parts_all}
 use Rattle.values.specs.Floors.{length_live, length_floor, inside}
-
-all_three : (a b d : Bool) → (a && b && d) ≡ true → (a ≡ true) × (b ≡ true) × (d ≡ true)
-all_three true true true h = (refl, refl, refl)
-all_three true true false h = let z : ◌≡◌ {A = ℕ} 0 1 = cc in absurd (omega arith)
-all_three true false d h = let z : ◌≡◌ {A = ℕ} 0 1 = cc in absurd (omega arith)
-all_three false b d h = let z : ◌≡◌ {A = ℕ} 0 1 = cc in absurd (omega arith)
 
 module _ {H : Type 0} (cells : H → List Cell) (l : LiveHeap H) where
   -- the counts that the limits read
@@ -39,8 +33,13 @@ module _ {H : Type 0} (cells : H → List Cell) (l : LiveHeap H) where
 
   pub room_has : (n : ℕ) → true ≡ has_room_lem (live_of cells l) n → (l.base + vec_len l.own.rows < 65536) × (vec_len l.own.rows < 256) × (vec_len l.own.pool + n ≤ 2048)
   room_has n h =
-      let t = all_three (ltb (length (live_cells cells l)) most) (ltb (length (live_cells cells l) - l.base) 256) (leb (parts_in (drop l.base (live_cells cells l)) + n) 2048) (sym h) in
-      (omega (arith, ltb-true (length (live_cells cells l)) most t.0, length_live cells l), omega (arith, ltb-true (length (live_cells cells l) - l.base) 256 t.1, own_count), omega (arith, leb-true (parts_in (drop l.base (live_cells cells l)) + n) 2048 t.2, own_parts))
+      let cs = live_cells cells l in
+      let a = ltb (length cs) most in
+      let b = ltb (length cs - l.base) 256 in
+      let d = leb (parts_in (drop l.base cs) + n) 2048 in
+      let t = and_parts (a && b) d (sym h) in
+      let u = and_parts a b t.0 in
+      (omega (arith, ltb-true (length cs) most u.0, length_live cells l), omega (arith, ltb-true (length cs - l.base) 256 u.1, own_count), omega (arith, leb-true (parts_in (drop l.base cs) + n) 2048 t.1, own_parts))
 
 -- another part in an own cell
 pub live_put : {H : Type 0} (cells : H → List Cell) (l : LiveHeap H) (own : OwnCells) (v i x : ℕ) → l.base ≤ v → own_cells own ≡ set (own_cells l.own) (v - l.base) (changed (cell_at (live_cells cells l) v) i x)
@@ -64,18 +63,6 @@ said_part cs v i x h = by (ltb v (length cs) && ltb i (length (cell_at cs v).par
     by : (b : Bool) → (ltb v (length cs) && ltb i (length (cell_at cs v).parts)) ≡ b → ◌≡◌ {A = Result Value Refusal} (Ok x) (cond b (Ok (value (get_or (cell_at cs v).parts i 0))) (Err NoValue)) → i < length (cell_at cs v).parts
     by true t h = ltb-true _ _ (and_parts _ _ t).1
     by false t h = let z : ◌≡◌ {A = ℕ} 0 1 = cc in absurd (omega arith)
-
-pub says_here : {X : Type 0} (cs : List Cell) (v : ℕ) (f : Cell → X) (c : Cell) → Lies cs v c → Ok (f c) ≡ cell_says cs v f
-says_here cs v f c h = ap (λ z. Ok (f z)) (sym h.is) ∙ sym (cond-true (ltb v (length cs)) _ _ (lt-ltb v (length cs) h.within))
-
-pub part_here : (cs : List Cell) (v i x : ℕ) (c : Cell) → Lies cs v c → i < length c.parts → x ≡ get_or c.parts i 0 → Ok (value x) ≡ cell_part cs v i
-part_here cs v i x c h p e =
-    ap (λ m. Ok (value m)) (e ∙ ap (λ z. get_or z.parts i 0) (sym h.is)) ∙ sym (cond-true (ltb v (length cs) && ltb i (length (cell_at cs v).parts)) _ _ (and_from _ _ (lt-ltb v (length cs) h.within) (lt-ltb i _ (subst (λ (z : Cell). i < length z.parts) (sym h.is) p))))
-
-pub part_past : (cs : List Cell) (v i : ℕ) (c : Cell) → Lies cs v c → length c.parts ≤ i → Err NoValue ≡ cell_part cs v i
-part_past cs v i c h p =
-    let q : length (cell_at cs v).parts ≤ i = subst (λ (z : Cell). length z.parts ≤ i) (sym h.is) p in
-    sym (cond-false (ltb v (length cs) && ltb i (length (cell_at cs v).parts)) _ _ (grind (arith, nat_tests)))
 
 module _ (s : Live) (v i x : ℕ) where
   pub put_ok : v < length s.cells → i < length (cell_at s.cells v).parts → x < length s.cells → s.frozen ≤ v → settable (cell_at s.cells v).ty i ≡ true → (Ok tt ≡ put_says s v i x) × (put s v i x ≡ put_leaves s v i x)
