@@ -28,7 +28,7 @@ pub(crate) fn say(rt: HostRuntime, name: &str, r: Result<usize, Refusal>) -> any
     match r {
         Ok(n) => println!(rt; "{name}: {n}")?,
         Err(e) => {
-            let code = e.code();
+            let code = u8::from(e);
             println!(rt; "{name}: refused {code}")?;
         }
     }
@@ -41,7 +41,7 @@ pub(crate) fn tell(rt: HostRuntime, name: &str, r: Result<bool, Refusal>) -> any
         Ok(true) => println!(rt; "{name}: yes")?,
         Ok(false) => println!(rt; "{name}: no")?,
         Err(e) => {
-            let code = e.code();
+            let code = u8::from(e);
             println!(rt; "{name}: refused {code}")?;
         }
     }

@@ -1,5 +1,6 @@
 // The values that nodes are tried on.
 use values::empty::EmptyHeap;
+use values::head::Head;
 use values::live::LiveHeap;
 use values::value::Value;
 
@@ -29,7 +30,7 @@ pub(crate) fn add(
     mark: i64,
     parts: &[Value],
 ) -> Value {
-    match live.new(ty, flags, mark, parts) {
+    match live.new(Head { ty, flags, mark }, parts) {
         Ok(v) => v,
         Err(_) => Value(MISSING),
     }
