@@ -6,6 +6,7 @@ ghost use Rattle.working_set.specs.Sets.{Effect};
 use crate::set::WorkingSet;
 use custom::ty_custom::TyCustom;
 use matcher::alloc::TypeMatcherAlloc;
+use values::head::Head;
 use values::heap::Heap;
 use values::refusal::Refusal;
 use values::value::Value;
@@ -15,7 +16,7 @@ impl<H: Heap, S: TypeMatcherAlloc, C: TyCustom> WorkingSet<H, S, C> {
     pub fn new(&mut self, ty: u16, flags: u8, mark: i64, parts: &[Value]) -> Result<Value, Refusal>
         ensures { Effect H.Heap.cells S.TypeMatcherAlloc.nodes S.TypeMatcherAlloc.limit S.TypeMatcherAlloc.sharing C.TyCustom.custom self.old (new_cell (cell ty flags mark (numbers parts.now))) (value_told result) self.new }
     {
-        self.live.new(ty, flags, mark, parts)
+        self.live.new(Head { ty, flags, mark }, parts)
     }
 
     // Sets an item of a list or a value of a dict.
