@@ -20,7 +20,7 @@ fn told(heap: Global, r: Result<usize, Refusal>) -> Result<String, AllocError> {
     match r {
         Ok(n) => format!(in heap; "{n}"),
         Err(e) => {
-            let n = e.code();
+            let n = u8::from(e);
             format!(in heap; "refused {n}")
         }
     }
