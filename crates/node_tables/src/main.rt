@@ -79,7 +79,7 @@ fn compile<S: TypeMatcherAlloc>(
         store,
         &mut annotations,
     ) {
-        let number = why.code();
+        let number = u8::from(why);
         println!(rt; "  {name}: refused {number}")?;
         return Ok(());
     }
