@@ -16,6 +16,7 @@ use std::alloc::{AllocError, Global};
 const ALL_CELLS: usize = 65536;
 
 // What is read below `base` where the heap below has other than `base` cells.
+// A constant makes no call, so None's number stands here.
 const NONE: Own = Own {
     head: Head {
         ty: 3,
@@ -47,17 +48,16 @@ impl<H: Heap> LiveHeap<H> {
     pub(crate) fn own_cell(&self, v: Value) -> Result<Option<Own>, Refusal>
         ensures { Found (live_cells H.Heap.cells self.now) (H.Heap.cells self.now.below) self.now.own.pool.items v.0 result }
     {
-        if v.0 >= self.base {
-            let k = v.0 - self.base;
-            if k < self.own.rows.len() {
-                return Ok(Some(self.own.rows[k]));
+        if v.0 < self.base {
+            if self.below.count() == self.base {
+                return Ok(None);
             }
-            return Err(Refusal::NoValue);
+            return Ok(Some(NONE));
         }
-        if self.below.count() == self.base {
-            return Ok(None);
+        match self.own.rows.get(v.0 - self.base) {
+            Some(own) => Ok(Some(*own)),
+            None => Err(Refusal::NoValue),
         }
-        Ok(Some(NONE))
     }
 
     // Whether a cell with so many parts has room.

@@ -9,6 +9,7 @@ use crate::live::LiveHeap;
 use crate::refusal::Refusal;
 use crate::value::Value;
 
+// Each question of the trait goes to the own cell or to the heap below.
 impl<H: Heap> Heap for LiveHeap<H> {
     ghost cells = { λ l. live_cells H.Heap.cells l };
 

@@ -17,6 +17,7 @@ const MOST_CELLS: usize = 256;
 const MOST_PARTS: usize = 2048;
 
 // All of `parts`, after what the pool has.
+// `extend` doesn't promise to succeed in reserved room, so each part is pushed.
 fn append(pool: &mut Vec<usize>, parts: &[Value])
     requires { vec_len pool.old + length parts.now ≤ vec_capacity pool.old }
     ensures items { pool.new.items ≡ pool.old.items ++ numbers parts.now }

@@ -3,8 +3,7 @@ ghost use Rattle.values.specs.Owned.{Laid, Shaped, total};
 
 use crate::own::Own;
 
-// At most 256 cells with at most 2048 parts in all; a pool holds the parts of each row.
-// Rule: a row has its parts by number in one pool, so that memory is reserved when the heap is made.
+// At most 256 cells with at most 2048 parts in all; both vectors are reserved when the heap is made.
 #[derive(Drop)]
 pub(crate) struct OwnCells {
     pub(crate) rows: Vec<Own>,
