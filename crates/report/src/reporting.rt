@@ -62,7 +62,7 @@ impl BadRecord {
             },
             BadRecord::Compiling(record, why) => Report {
                 record,
-                number: why.code(),
+                number: u8::from(why),
                 byte: 0,
             },
         }

@@ -5,8 +5,7 @@ use Rattle.custom.specs.Entries.{marks_mean, ranges_mean}
 use Rattle.custom.specs.Held.{marks_in, ranges_in}
 use Rattle.custom.specs.declared.entries.Mark.{Mark}
 use Rattle.custom.specs.declared.entries.Range.{Range}
-use Rattle.custom.specs.declared.marks.Marks.{Marks}
-use Rattle.custom.specs.declared.ranges.Ranges.{Ranges}
+use Rattle.custom.specs.declared.list.Entries.{Entries}
 use Rattle.custom.specs.declared.pair.Pair.{Pair}
 use Rattle.working_set.specs.Sets.{state_of as set_state}
 use Rattle.matcher.specs.Nodes.{Node}
@@ -23,7 +22,7 @@ use Rattle.report.specs.ByCalls.{ReportsByCalls}
 use Rattle.report.proofs.reporting.report_verified.Goals as goal
 
 abbrev Both : Type 0
-Both = Pair Marks Ranges
+Both = Pair (Entries Mark) (Entries Range)
 
 abbrev one : List Mark → List Range → Custom
 one ms rs = paired (marks_mean ms) (ranges_mean rs)

@@ -12,5 +12,5 @@ returns-in-Ok-clause-writes g c =
 pub returns-in-Err-clause-writes : goal.returns-in-Err-clause-writes
 returns-in-Err-clause-writes g c =
     let a = c.args.self.now in
-    let e = ap (λ n. codes "refused " ++ decimal n) c.code-number.ensures ∙ sym (ap says_text c.in-Err.is) in
+    let e = ap (λ n. codes "refused " ++ decimal n) c.from-number.ensures ∙ sym (ap says_text c.in-Err.is) in
     λ p o. subst (λ (bs : List ℕ). HasWritten g.W.Write.write_str_gives c.args.f.now (decimal a.annotation ++ (codes " " ++ (decimal a.value ++ (codes " " ++ bs)))) c.write-in-Err.new.self) e (c.write-in-Err.ensures.writes p o)
