@@ -1,4 +1,3 @@
-mod Rooms
 mod Tops
 mod Valids
 mod Readings

@@ -6,18 +6,17 @@ use Rattle.custom.specs.Worlds.{Answers, World}
 use Rattle.matcher.specs.Nodes.{Node, arity, node_at_lem}
 use Rattle.matcher.specs.declared.kind.Kind.{Kind}
 use Rattle.matcher.specs.declared.kind.Kind.TheVariants.{IsAny, IsNever, IsStr, IsList, IsListOf, IsTupleOf, IsTupleElems, IsTupleElems0, IsTupleElems1, IsTupleElems2, IsDict, IsDictOf, IsSet, IsSetOf, IsAnyOfTwo, IsAnyOf, IsCallable, IsType, IsIterable, IsInt, IsBool, IsNone, StarlarkTypeIdMatcher, Custom}
-use Rattle.matching.specs.Shapes.{shape, shape_of, kid_by_lem, inside, kid_of, sub_of}
+use Rattle.matching.specs.Shapes.{every_if, shape, shape_of, kid_by_lem, inside, kid_of, sub_of}
 use Rattle.matching.specs.Stacks.{Stands, Place}
 use Rattle.matching.specs.declared.asked.Shape.{Shape}
-use Rattle.matching.specs.declared.asked.Shape.TheVariants.{Given, Every, Either}
+use Rattle.matching.specs.declared.asked.Shape.TheVariants.{Given, Asks}
 
 -- how many places a shape has
 abbrev pub many : Shape → ℕ
 many (Given b) = 0
-many (Every m) = m
-many (Either m) = m
+many (Asks q m) = m
 
-many_if : (t : Bool) (m i : ℕ) → i < many (cond t (Every m) (Given false)) → (t ≡ true) × (i < m)
+many_if : (t : Bool) (m i : ℕ) → i < many (every_if t m) → (t ≡ true) × (i < m)
 many_if true m i h = (refl, h)
 many_if false m i h = absurd (omega arith)
 

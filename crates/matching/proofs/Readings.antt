@@ -8,23 +8,24 @@ use Rattle.matcher.specs.Nodes.{Node, node_at_lem, arity, valid}
 use Rattle.matcher.specs.Meaning.{Test, nay, first, second, all, entries, placed, some, kind_says, kid_tests, tests, accepts}
 use Rattle.matcher.specs.declared.kind.Kind.{Kind}
 use Rattle.matcher.specs.declared.kind.Kind.TheVariants.{IsAny, IsNever, IsStr, IsList, IsListOf, IsTupleOf, IsTupleElems, IsTupleElems0, IsTupleElems1, IsTupleElems2, IsDict, IsDictOf, IsSet, IsSetOf, IsAnyOfTwo, IsAnyOf, IsCallable, IsType, IsIterable, IsInt, IsBool, IsNone, StarlarkTypeIdMatcher, Custom}
-use Rattle.matching.specs.Shapes.{every_if, shape_of, kid_by_lem, inside, shape, settle, kid_of, sub_of, every, either}
+use Rattle.matching.specs.Shapes.{every_if, shape_of, kid_by_lem, inside, shape, settle, kid_of, sub_of, holds}
+use Rattle.matching.specs.declared.asked.Quantifier.TheVariants.{Every, Either}
 use Rattle.matching.proofs.Valids.{facts}
 
-if_every : (t : Bool) (m : ℕ) (p : ℕ → Bool) {r : Bool} → every p 0 m ≡ r → settle (every_if t m) p ≡ (t && r)
+if_every : (t : Bool) (m : ℕ) (p : ℕ → Bool) {r : Bool} → holds Every p 0 m ≡ r → settle (every_if t m) p ≡ (t && r)
 if_every true m p h = h
 if_every false m p h = refl
 
 none_asked : (t : Bool) (p : ℕ → Bool) → t ≡ settle (every_if t 0) p
-unfolding every
+unfolding holds
 none_asked true p = refl
 none_asked false p = refl
 
 one_on : (p : ℕ → Bool) (i j : ℕ) (r : Bool) → p (i + suc j) ≡ r → p (i + 1 + j) ≡ r
 one_on p i j r h = let e : i + 1 + j ≡ i + suc j = omega arith in ap p e ∙ h
 
-every_all : (p q : ℕ → Bool) (xs : List ℕ) (i : ℕ) → ((j : ℕ) → j < length xs → p (i + j) ≡ q (get_or xs j 0)) → every p i (length xs) ≡ all q xs
-unfolding every
+every_all : (p q : ℕ → Bool) (xs : List ℕ) (i : ℕ) → ((j : ℕ) → j < length xs → p (i + j) ≡ q (get_or xs j 0)) → holds Every p i (length xs) ≡ all q xs
+unfolding holds
 every_all p q [] i h = refl
 every_all p q (x ∷ xs) i h =
     rw (ap p (sym (add-zero i)) ∙ h 0 (omega arith), every_all p q xs (i + 1) (λ j l. one_on p i j _ (h (suc j) (omega arith)))) refl
@@ -32,8 +33,8 @@ every_all p q (x ∷ xs) i h =
 turned : (j : ℕ) (a b : Bool) → cond (eqb (suc j % 2) 0) a b ≡ cond (eqb (j % 2) 0) b a
 turned j a b = grind (arith, nat_tests)
 
-every_entries : (f p q : ℕ → Bool) (xs : List ℕ) (i : ℕ) → ((j : ℕ) → j < length xs → f (i + j) ≡ cond (eqb (j % 2) 0) (p (get_or xs j 0)) (q (get_or xs j 0))) → every f i (length xs) ≡ entries p q xs
-unfolding every
+every_entries : (f p q : ℕ → Bool) (xs : List ℕ) (i : ℕ) → ((j : ℕ) → j < length xs → f (i + j) ≡ cond (eqb (j % 2) 0) (p (get_or xs j 0)) (q (get_or xs j 0))) → holds Every f i (length xs) ≡ entries p q xs
+unfolding holds
 every_entries f p q [] i h = refl
 every_entries f p q (x ∷ xs) i h =
     rw (ap f (sym (add-zero i)) ∙ h 0 (omega arith), every_entries f q p xs (i + 1) (λ j l. one_on f i j _ (h (suc j) (omega arith) ∙ turned j _ _))) refl
@@ -51,14 +52,14 @@ module _ (ts : List Test) where
   kid_at (k ∷ ks) zero l = refl
   kid_at (k ∷ ks) (suc i) l = kid_at ks i (omega arith)
 
-  either_some : (f : ℕ → Bool) (ks : List ℕ) (v i : ℕ) → ((j : ℕ) → j < length ks → f (i + j) ≡ kid ks j v) → either f i (length ks) ≡ some (kid_tests ts ks) v
-  unfolding either
+  either_some : (f : ℕ → Bool) (ks : List ℕ) (v i : ℕ) → ((j : ℕ) → j < length ks → f (i + j) ≡ kid ks j v) → holds Either f i (length ks) ≡ some (kid_tests ts ks) v
+  unfolding holds
   either_some f [] v i h = refl
   either_some f (k ∷ ks) v i h =
       rw (ap f (sym (add-zero i)) ∙ h 0 (omega arith), either_some f ks v (i + 1) (λ j l. one_on f i j _ (h (suc j) (omega arith)))) refl
 
-  every_placed : (f : ℕ → Bool) (ks xs : List ℕ) (i : ℕ) → length xs ≡ length ks → ((j : ℕ) → j < length ks → f (i + j) ≡ kid ks j (get_or xs j 0)) → every f i (length ks) ≡ placed (kid_tests ts ks) xs
-  unfolding every
+  every_placed : (f : ℕ → Bool) (ks xs : List ℕ) (i : ℕ) → length xs ≡ length ks → ((j : ℕ) → j < length ks → f (i + j) ≡ kid ks j (get_or xs j 0)) → holds Every f i (length ks) ≡ placed (kid_tests ts ks) xs
+  unfolding holds
   every_placed f [] [] i e h = refl
   every_placed f [] (x ∷ xs) i e h = absurd (omega arith)
   every_placed f (k ∷ ks) [] i e h = absurd (omega arith)
@@ -91,11 +92,11 @@ module _ (ts : List Test) where
   tuple_says true m ks xs e = by (eqb (length xs) m) refl
     where
       by : (b : Bool) → eqb (length xs) m ≡ b → settle (every_if b m) (λ i. kid ks i (get_or xs i 0)) ≡ placed (kid_tests ts ks) xs
-      by true h = ap (every (λ i. kid ks i (get_or xs i 0)) 0) (sym e) ∙ every_placed (λ i. kid ks i (get_or xs i 0)) ks xs 0 (eqb-true (length xs) m h ∙ sym e) (λ j l. ap (λ x. kid ks x (get_or xs x 0)) (zero-add j))
+      by true h = ap (holds Every (λ i. kid ks i (get_or xs i 0)) 0) (sym e) ∙ every_placed (λ i. kid ks i (get_or xs i 0)) ks xs 0 (eqb-true (length xs) m h ∙ sym e) (λ j l. ap (λ x. kid ks x (get_or xs x 0)) (zero-add j))
       by false h = sym (not_placed ks xs (λ l. eqb-false (length xs) m h (l ∙ e)))
 
-  union_says : (m : ℕ) (ks : List ℕ) (v : ℕ) → length ks ≡ m → either (λ i. kid ks i v) 0 m ≡ some (kid_tests ts ks) v
-  union_says m ks v e = ap (either (λ i. kid ks i v) 0) (sym e) ∙ either_some (λ i. kid ks i v) ks v 0 (λ j l. ap (λ x. kid ks x v) (zero-add j))
+  union_says : (m : ℕ) (ks : List ℕ) (v : ℕ) → length ks ≡ m → holds Either (λ i. kid ks i v) 0 m ≡ some (kid_tests ts ks) v
+  union_says m ks v e = ap (holds Either (λ i. kid ks i v) 0) (sym e) ∙ either_some (λ i. kid ks i v) ks v 0 (λ j l. ap (λ x. kid ks x v) (zero-add j))
 
   by_kind : (W : World) (k : Kind) (d : Node) (c : Cell) (v : ℕ) → arity k (length d.kids) ≡ true → settle (shape_of k d c W.says) (λ i. kid d.kids (kid_by_lem k i) (cond (inside k) (get_or c.parts i 0) v)) ≡ kind_says W k d.number (kid_tests ts d.kids) v c
   by_kind W IsAny d c v a = refl

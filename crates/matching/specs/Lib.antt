@@ -1,4 +1,4 @@
 pub mod Verdicts
 pub mod Shapes
+pub mod Settings
 pub mod Stacks
-pub mod Waiting

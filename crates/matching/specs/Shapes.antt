@@ -6,10 +6,18 @@ use Rattle.matcher.specs.Nodes.{Node, node_at_lem}
 use Rattle.matcher.specs.declared.kind.Kind.{Kind}
 use Rattle.matcher.specs.declared.kind.Kind.TheVariants.{IsAny, IsNever, IsStr, IsList, IsListOf, IsTupleOf, IsTupleElems, IsTupleElems0, IsTupleElems1, IsTupleElems2, IsDict, IsDictOf, IsSet, IsSetOf, IsAnyOfTwo, IsAnyOf, IsCallable, IsType, IsIterable, IsInt, IsBool, IsNone, StarlarkTypeIdMatcher, Custom}
 use Rattle.matching.specs.declared.asked.Shape.{Shape}
-use Rattle.matching.specs.declared.asked.Shape.TheVariants.{Given, Every, Either}
+use Rattle.matching.specs.declared.asked.Shape.TheVariants.{Given, Asks}
+use Rattle.matching.specs.declared.asked.Quantifier.{Quantifier}
+use Rattle.matching.specs.declared.asked.Quantifier.TheVariants.{Every, Either}
 
+-- what a quantifier says of no places
+abbrev pub none_of : Quantifier → Bool
+none_of Every = true
+none_of Either = false
+
+-- each of m places, where the test holds
 abbrev pub every_if : Bool → ℕ → Shape
-every_if b m = cond b (Every m) (Given false)
+every_if b m = cond b (Asks Every m) (Given false)
 
 -- what a node d of a kind asks of a cell c, where the customs answer y
 abbrev pub shape_of : Kind → Node → Cell → Answers → Shape
@@ -27,8 +35,8 @@ shape_of IsDict d c y = Given (c.ty == 6)
 shape_of IsDictOf d c y = every_if (c.ty == 6) (length c.parts)
 shape_of IsSet d c y = Given (c.ty == 7)
 shape_of IsSetOf d c y = every_if (c.ty == 7) (length c.parts)
-shape_of IsAnyOfTwo d c y = Either 2
-shape_of IsAnyOf d c y = Either (length d.kids)
+shape_of IsAnyOfTwo d c y = Asks Either 2
+shape_of IsAnyOf d c y = Asks Either (length d.kids)
 shape_of IsCallable d c y = Given (c.flags % 2 == 1)
 shape_of IsType d c y = Given (c.flags / 4 % 2 == 1)
 shape_of IsIterable d c y = Given (c.flags / 2 % 2 == 1)
@@ -102,18 +110,17 @@ kid_of ns n i = slice_index (node_at_lem ns n).kids (kid_by_lem (node_at_lem ns 
 unfoldable pub sub_of : List Cell → List Node → ℕ → ℕ → ℕ → ℕ
 sub_of cs ns n v i = cond (inside (node_at_lem ns n).kind) (slice_index (cell_at cs v).parts i) v
 
--- yes at each of m places from i on
-unfoldable pub every : (ℕ → Bool) → ℕ → ℕ → Bool
-every f i zero = true
-every f i (suc m) = f i && every f (i + 1) m
+-- what a quantifier says of a place that says b, and of places of which it says c
+abbrev pub join : Quantifier → Bool → Bool → Bool
+join Every b c = b && c
+join Either b c = b || c
 
--- yes at one of m places from i on
-unfoldable pub either : (ℕ → Bool) → ℕ → ℕ → Bool
-either f i zero = false
-either f i (suc m) = f i || either f (i + 1) m
+-- what a quantifier says of m places from i on, which say f
+unfoldable pub holds : Quantifier → (ℕ → Bool) → ℕ → ℕ → Bool
+holds q f i zero = none_of q
+holds q f i (suc m) = join q (f i) (holds q f (i + 1) m)
 
 -- what a shape answers, where its places say f
 abbrev pub settle : Shape → (ℕ → Bool) → Bool
 settle (Given b) f = b
-settle (Every m) f = every f 0 m
-settle (Either m) f = either f 0 m
+settle (Asks q m) f = holds q f 0 m

@@ -1,12 +1,12 @@
 -- What the frames of a run stand for. Assumes nothing.
-use Rattle.std.specs.Prelude.{◌≡◌, ℕ, zero, suc, ◌+◌, ◌^◌, ◌<◌, ◌≤◌, Bool, true, cond, ◌&&◌, ◌||◌, List, [], ◌∷◌, length, slice_index}
+use Rattle.std.specs.Prelude.{◌≡◌, ℕ, zero, suc, ◌+◌, ◌-◌, ◌<◌, ◌≤◌, Bool, true, List, [], ◌∷◌, length, slice_index}
 use Rattle.values.specs.Cells.{Cell, cell_at}
 use Rattle.custom.specs.Worlds.{World}
 use Rattle.matcher.specs.Nodes.{Node, node_at_lem, deepest}
 use Rattle.matcher.specs.Meaning.{accepts}
-use Rattle.matching.specs.Shapes.{shape, kid_of, sub_of, kid_by_lem, inside, every, either}
+use Rattle.matching.specs.Shapes.{shape, kid_of, sub_of, kid_by_lem, inside, join, holds}
 use Rattle.matching.specs.declared.asked.Shape.{Shape}
-use Rattle.matching.specs.declared.asked.Shape.TheVariants.{Given, Every, Either}
+use Rattle.matching.specs.declared.asked.Shape.TheVariants.{Given, Asks}
 use Rattle.matching.specs.declared.frames.Frame.{Frame}
 
 -- n is a node, and at most d deep
@@ -21,8 +21,7 @@ turns g i (suc m) = 1 + g i + turns g (i + 1) m
 
 abbrev pub burden : Shape → (ℕ → ℕ) → ℕ
 burden (Given b) g = 0
-burden (Every m) g = 1 + turns g 0 m
-burden (Either m) g = 1 + turns g 0 m
+burden (Asks q m) g = 1 + turns g 0 m
 
 -- a bound on the turns that a node, at most d deep, takes
 unfoldable pub weigh : World → List Node → ℕ → ℕ → ℕ → ℕ
@@ -36,24 +35,27 @@ pub record Place (cs : List Cell) (ns : List Node) (n v i : ℕ) : Type 0 where
 
 -- what the places of a frame say, and their bounds, where its kids are at most d deep
 abbrev pub place_says : World → List Node → Frame → ℕ → Bool
-place_says W ns f i = accepts W ns (kid_of ns f.node i) (sub_of W.cells ns f.node f.value.0 i)
+place_says W ns f i = accepts W ns (kid_of ns f.question.node i) (sub_of W.cells ns f.question.node f.question.value.0 i)
 
 abbrev pub costs : World → List Node → ℕ → Frame → ℕ → ℕ
-costs W ns d f i = weigh W ns d (kid_of ns f.node i) (sub_of W.cells ns f.node f.value.0 i)
+costs W ns d f i = weigh W ns d (kid_of ns f.question.node i) (sub_of W.cells ns f.question.node f.question.value.0 i)
+
+-- how many places a frame still has to ask
+abbrev pub left : Frame → ℕ
+left f = f.places.end - f.places.start
 
 pub record Sound (W : World) (ns : List Node) (d : ℕ) (f : Frame) : Type 0 where
-  pub value : f.value.0 < length W.cells
-  pub node : Stands ns (suc d) f.node
-  pub kind : f.kind ≡ (node_at_lem ns f.node).kind
-  pub fits : f.next + f.left < 2 ^ 64
-  pub places : (i : ℕ) → i < f.next + f.left → Place W.cells ns f.node f.value.0 i
+  pub value : f.question.value.0 < length W.cells
+  pub node : Stands ns (suc d) f.question.node
+  pub kind : f.question.kind ≡ (node_at_lem ns f.question.node).kind
+  pub places : (i : ℕ) → i < f.places.end → Place W.cells ns f.question.node f.question.value.0 i
 
--- what a frame says once the place before `next` said b
+-- what a frame says once the place before the next said b
 unfoldable pub after : World → List Node → Frame → Bool → Bool
-after W ns f b = cond f.all (b && every (place_says W ns f) f.next f.left) (b || either (place_says W ns f) f.next f.left)
+after W ns f b = join f.quantifier b (holds f.quantifier (place_says W ns f) f.places.start (left f))
 
 unfoldable pub toll : World → List Node → ℕ → Frame → ℕ
-toll W ns d f = 1 + turns (costs W ns d f) f.next f.left
+toll W ns d f = 1 + turns (costs W ns d f) f.places.start (left f)
 
 -- the depth that is left above the frames
 unfoldable pub above : ℕ → List Frame → ℕ

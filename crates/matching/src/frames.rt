@@ -1,27 +1,38 @@
-ghost use Rattle.std.specs.Prelude.{◌≤◌};
-ghost use Rattle.matcher.specs.Nodes.{deepest};
-
+use crate::asked::Quantifier;
 use matcher::kind::Kind;
+use std::ops::Range;
 use values::value::Value;
 
 // The greatest depth of a node, and so the most frames that wait.
 pub(crate) const DEEPEST: usize = 64;
 
-// A node that waits for its places: `left` of them from `next` on. `all` says whether each must say yes, or one.
+// A node, with its kind, that is asked of a value.
 #[derive(Clone, Copy)]
-pub(crate) struct Frame {
+pub(crate) struct Question {
     pub(crate) node: usize,
     pub(crate) kind: Kind,
     pub(crate) value: Value,
-    pub(crate) next: usize,
-    pub(crate) left: usize,
-    pub(crate) all: bool,
 }
 
-// The frames that wait, the outermost first.
+// A question that waits: the places that it still has to ask.
 #[derive(Drop)]
-pub(crate) struct Stack {
-    pub(crate) frames: [Frame; DEEPEST],
-    pub(crate) height: usize,
-    ghost fits: { height ≤ deepest },
+pub(crate) struct Frame {
+    pub(crate) question: Question,
+    pub(crate) quantifier: Quantifier,
+    pub(crate) places: Range<usize>,
+}
+
+// What a free place of a stack holds.
+impl Default for Frame {
+    fn default() -> Frame {
+        Frame {
+            question: Question {
+                node: 0,
+                kind: Kind::IsNever,
+                value: Value(0),
+            },
+            quantifier: Quantifier::Every,
+            places: 0..0,
+        }
+    }
 }

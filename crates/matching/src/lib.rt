@@ -4,6 +4,6 @@
 mod asked;
 mod frames;
 pub mod running;
+mod setting;
 mod shapes;
-mod stacks;
-mod sure;
+mod subject;
