@@ -8,10 +8,11 @@ ghost use Rattle.matching.specs.Stacks.{Place};
 use crate::asked::{Quantifier, Shape};
 use crate::frames::Question;
 use crate::setting::Setting;
-use crate::subject::{CALLABLE, DICT, ITERABLE, LIST, SET, Subject, TUPLE, TYPE};
+use crate::subject::{CALLABLE, ITERABLE, Subject, TYPE};
 use custom::ty_custom::TyCustom;
 use matcher::alloc::TypeMatcherAlloc;
 use matcher::kind::Kind;
+use values::built_in::BuiltIn;
 use values::head::Head;
 use values::heap::Heap;
 use values::value::Value;
@@ -66,33 +67,38 @@ impl<H: Heap, S: TypeMatcherAlloc, C: TyCustom> Setting<'_, H, S, C> {
         }
     }
 
+    // What the custom of the node n says of a head.
+    fn is_custom(&self, n: usize, head: Head) -> bool
+        requires { n < length (S.nodes self.now.store.now) }
+        ensures { result ≡ (C.custom self.now.customs.now).says (node_at_lem (S.nodes self.now.store.now) n).number head.ty head.flags head.mark }
+    {
+        let number = self.store.number(n).unwrap();
+        self.customs.matches(number, head.ty, head.flags, head.mark)
+    }
+
     pub(crate) fn shape(&self, q: Question) -> Shape
         requires node { q.node < length (S.nodes self.now.store.now) }
         requires value { q.value.0 < length (H.cells self.now.heap.now) }
         ensures { result ≡ shape_of q.kind (node_at_lem (S.nodes self.now.store.now) q.node) (cell_at (H.cells self.now.heap.now) q.value.0) (C.custom self.now.customs.now).says }
     {
-        let Setting {
-            heap,
-            store,
-            customs,
-        } = self;
+        let Setting { heap, store, .. } = self;
         let v = q.value;
         let it = Subject::new(*heap, v);
         match q.kind {
             Kind::IsAny => Shape::Given(true),
             Kind::IsNever => Shape::Given(false),
             Kind::IsStr => Shape::Given(heap.unpack_str(v).unwrap().is_some()),
-            Kind::IsList => Shape::Given(it.is(LIST)),
-            Kind::IsListOf => it.every_part(LIST),
-            Kind::IsTupleOf => it.every_part(TUPLE),
+            Kind::IsList => Shape::Given(it.is(BuiltIn::List)),
+            Kind::IsListOf => it.every_part(BuiltIn::List),
+            Kind::IsTupleOf => it.every_part(BuiltIn::Tuple),
             Kind::IsTupleElems => it.every_place(store.kids(q.node).unwrap()),
             Kind::IsTupleElems0 => Shape::Given(it.is_long(0)),
             Kind::IsTupleElems1 => it.every_place(1),
             Kind::IsTupleElems2 => it.every_place(2),
-            Kind::IsDict => Shape::Given(it.is(DICT)),
-            Kind::IsDictOf => it.every_part(DICT),
-            Kind::IsSet => Shape::Given(it.is(SET)),
-            Kind::IsSetOf => it.every_part(SET),
+            Kind::IsDict => Shape::Given(it.is(BuiltIn::Dict)),
+            Kind::IsDictOf => it.every_part(BuiltIn::Dict),
+            Kind::IsSet => Shape::Given(it.is(BuiltIn::Set)),
+            Kind::IsSetOf => it.every_part(BuiltIn::Set),
             Kind::IsAnyOfTwo => Shape::Asks(Quantifier::Either, 2),
             Kind::IsAnyOf => Shape::Asks(Quantifier::Either, store.kids(q.node).unwrap()),
             Kind::IsCallable => Shape::Given(it.has(CALLABLE)),
@@ -101,8 +107,8 @@ impl<H: Heap, S: TypeMatcherAlloc, C: TyCustom> Setting<'_, H, S, C> {
             Kind::IsInt => Shape::Given(heap.unpack_int(v).unwrap().is_some()),
             Kind::IsBool => Shape::Given(heap.unpack_bool(v).unwrap().is_some()),
             Kind::IsNone => Shape::Given(heap.is_none(v).unwrap()),
-            Kind::StarlarkTypeIdMatcher => Shape::Given(it.is(store.number(q.node).unwrap())),
-            Kind::Custom => Shape::Given(it.is_custom(*customs, store.number(q.node).unwrap())),
+            Kind::StarlarkTypeIdMatcher => Shape::Given(it.head().ty == store.number(q.node).unwrap()),
+            Kind::Custom => Shape::Given(self.is_custom(q.node, it.head())),
         }
     }
 }

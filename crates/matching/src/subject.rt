@@ -1,22 +1,17 @@
 // A value, as it is asked.
 ghost use Rattle.std.specs.Prelude.{◌≡◌, ℕ, ◌/◌, ◌%◌, ◌^◌, ◌<◌, ◌&&◌, ◌==◌, length};
-ghost use Rattle.values.specs.Cells.{cell_at};
+ghost use Rattle.values.specs.Cells.{cell_at, head_of};
+ghost use Rattle.values.specs.Types.{type_number};
 ghost use Rattle.matching.specs.Shapes.{every_if};
 
 use crate::asked::Shape;
-use custom::ty_custom::TyCustom;
 use std::marker::Model;
+use values::built_in::BuiltIn;
+use values::head::Head;
 use values::heap::Heap;
 use values::value::Value;
 
-pub(crate) const LIST: u16 = 5;
-
-pub(crate) const DICT: u16 = 6;
-
-pub(crate) const SET: u16 = 7;
-
-pub(crate) const TUPLE: u16 = 8;
-
+// The flags of a cell.
 pub(crate) const CALLABLE: u8 = 1;
 
 pub(crate) const ITERABLE: u8 = 2;
@@ -49,24 +44,30 @@ impl<'a, H: Heap> Subject<'a, H> {
         Subject { heap, value }
     }
 
-    pub(crate) fn is(&self, ty: u16) -> bool
-        ensures { result ≡ (self.now.ty == ty) }
+    pub(crate) fn head(&self) -> Head
+        ensures { result ≡ head_of self.now }
     {
-        self.heap.starlark_type_id(self.value).unwrap() == ty
+        self.heap.head(self.value).unwrap()
     }
 
     // How many parts it has.
-    pub(crate) fn len(&self) -> usize
+    fn len(&self) -> usize
         ensures { result ≡ length self.now.parts }
     {
         self.heap.len(self.value).unwrap()
+    }
+
+    pub(crate) fn is(&self, ty: BuiltIn) -> bool
+        ensures { result ≡ (self.now.ty == type_number ty) }
+    {
+        self.head().ty == u16::from(ty)
     }
 
     // Whether it is a tuple of so many parts.
     pub(crate) fn is_long(&self, len: usize) -> bool
         ensures { result ≡ (self.now.ty == 8 && length self.now.parts == len) }
     {
-        self.is(TUPLE) && self.len() == len
+        self.is(BuiltIn::Tuple) && self.len() == len
     }
 
     // Whether it has the flag.
@@ -74,12 +75,12 @@ impl<'a, H: Heap> Subject<'a, H> {
         requires { (k : ℕ) × (flag ≡ 2 ^ k) }
         ensures { result ≡ (self.now.flags / flag % 2 == 1) }
     {
-        self.heap.flags(self.value).unwrap() & flag != 0
+        self.head().flags & flag != 0
     }
 
     // Every part, of a value of the type.
-    pub(crate) fn every_part(&self, ty: u16) -> Shape
-        ensures { result ≡ every_if (self.now.ty == ty) (length self.now.parts) }
+    pub(crate) fn every_part(&self, ty: BuiltIn) -> Shape
+        ensures { result ≡ every_if (self.now.ty == type_number ty) (length self.now.parts) }
     {
         Shape::every_if(self.is(ty), self.len())
     }
@@ -89,17 +90,5 @@ impl<'a, H: Heap> Subject<'a, H> {
         ensures { result ≡ every_if (self.now.ty == 8 && length self.now.parts == len) len }
     {
         Shape::every_if(self.is_long(len), len)
-    }
-
-    // What the custom `number` says of it.
-    pub(crate) fn is_custom<C: TyCustom>(&self, customs: &C, number: u16) -> bool
-        ensures { result ≡ (C.custom customs.now).says number self.now.ty self.now.flags self.now.mark }
-    {
-        customs.matches(
-            number,
-            self.heap.starlark_type_id(self.value).unwrap(),
-            self.heap.flags(self.value).unwrap(),
-            self.heap.mark(self.value).unwrap(),
-        )
     }
 }

@@ -14,6 +14,6 @@ bit f k = rw and_pow (one_or_none (f / 2 ^ k % 2) (2 ^ k) (omega arith) (pow_pos
 
 pub returns : goal.returns
 returns g c =
-    let b = bit c.unwrap.result c.requires.0 in
+    let b = bit c.head.result.flags c.requires.0 in
     let e = c.requires.1 in
     rw e (search rules)
