@@ -16,7 +16,7 @@ use Rattle.matching.specs.declared.asked.Quantifier.{Quantifier}
 use Rattle.matching.specs.declared.asked.Quantifier.TheVariants.{Every, Either}
 use Rattle.matching.proofs.Valids.{facts, stands}
 use Rattle.matching.proofs.Readings.{accepts_by_places}
-use Rattle.matching.proofs.Tops.{above_push, above_length, unwind_push, load_push, sounds_push, sounds_pop}
+use Rattle.matching.proofs.Tops.{above_push, unwind_push, load_push, sounds_push, sounds_pop}
 use Rattle.matching.proofs.Places.{many, places, depth_of, stands_in, kid_stands, sub_stands}
 
 abbrev pub frame : Question → Quantifier → ℕ → ℕ → Frame
@@ -29,9 +29,6 @@ fresh q r m = frame q r 0 m
 -- the frame one place on
 abbrev pub onward : Frame → Frame
 onward f = frame f.question f.quantifier (f.places.start + 1) f.places.end
-
-pub few : (fs : List Frame) (e : ℕ) → above deepest fs ≡ suc e → length fs < deepest
-few fs e h = above_length deepest fs e h
 
 -- what is read by the kind that a question holds
 pub shape_is : (W : World) (ns : List Node) (n v : ℕ) (k : Kind) → k ≡ (node_at_lem ns n).kind → (s : Shape) → s ≡ shape_of k (node_at_lem ns n) (cell_at W.cells v) W.says → shape W ns n v ≡ s
@@ -53,11 +50,9 @@ module _ (cs : List Cell) (ns : List Node) (n v : ℕ) (k : Kind) (is : k ≡ (n
   pub place_part : Place cs ns n v i → inside k ≡ true → i < length (cell_at cs v).parts
   place_part p = rw is p.part
 
-join_stop : (q : Quantifier) (b c : Bool) → (b ≡ none_of q → ⊥) → join q b c ≡ b
-join_stop Every true c apart = absurd (apart refl)
-join_stop Every false c apart = refl
-join_stop Either true c apart = refl
-join_stop Either false c apart = absurd (apart refl)
+join_whole : (q : Quantifier) (c : Bool) → join q (none_of q) c ≡ c
+join_whole Every c = refl
+join_whole Either c = refl
 
 join_none : (q : Quantifier) (b : Bool) → join q b (none_of q) ≡ b
 join_none Every true = refl
@@ -65,13 +60,17 @@ join_none Every false = refl
 join_none Either true = refl
 join_none Either false = refl
 
-join_more : (q : Quantifier) (b c : Bool) → b ≡ none_of q → join q b c ≡ c
-join_more Every b c e = rw e refl
-join_more Either b c e = rw e refl
+join_stop : (q : Quantifier) (b c : Bool) → not (beq b (none_of q)) ≡ true → join q b c ≡ b
+join_stop Every true c decides = cc
+join_stop Every false c decides = refl
+join_stop Either true c decides = refl
+join_stop Either false c decides = cc
 
-holds_none : (q : Quantifier) (p : ℕ → Bool) (i m : ℕ) → m ≡ 0 → holds q p i m ≡ none_of q
-unfolding holds
-holds_none q p i m h = ap (holds q p i) h
+join_more : (q : Quantifier) (b c : Bool) → not (beq b (none_of q)) ≡ false → join q b c ≡ c
+join_more Every true c goes = refl
+join_more Every false c goes = cc
+join_more Either true c goes = cc
+join_more Either false c goes = refl
 
 holds_more : (q : Quantifier) (p : ℕ → Bool) (i m : ℕ) → 0 < m → holds q p i m ≡ join q (p i) (holds q p (i + 1) (m - 1))
 unfolding holds
@@ -103,7 +102,7 @@ module _ (W : World) (limit : ℕ) (ns : List Node) (ok : valid limit ns ≡ tru
 
     after_fresh : after W ns (fresh q r m) (none_of r) ≡ accepts W ns q.node q.value.0
     unfolding after
-    after_fresh = join_more r (none_of r) _ refl ∙ ap (holds r (place_says W ns (fresh q r m)) 0) whole ∙ sym (accepts_by (Asks r m) asks)
+    after_fresh = join_whole r _ ∙ ap (holds r (place_says W ns (fresh q r m)) 0) whole ∙ sym (accepts_by (Asks r m) asks)
 
     toll_fresh : (d : ℕ) → toll W ns d (fresh q r m) ≡ weigh W ns (suc d) q.node q.value.0
     unfolding toll
@@ -126,14 +125,14 @@ module _ (W : World) (limit : ℕ) (ns : List Node) (ok : valid limit ns ≡ tru
 
 module _ (W : World) (ns : List Node) (f : Frame) where
   -- a frame that is told what decides it
-  after_stop : (b : Bool) → (b ≡ none_of f.quantifier → ⊥) → after W ns f b ≡ b
+  after_stop : (b : Bool) → not (beq b (none_of f.quantifier)) ≡ true → after W ns f b ≡ b
   unfolding after
-  after_stop b apart = join_stop f.quantifier b _ apart
+  after_stop b decides = join_stop f.quantifier b _ decides
 
   -- a frame with no place left
   after_none : (b : Bool) → left f ≡ 0 → after W ns f b ≡ b
-  unfolding after
-  after_none b none = ap (join f.quantifier b) (holds_none f.quantifier _ f.places.start (left f) none) ∙ join_none f.quantifier b
+  unfolding after holds
+  after_none b none = ap (λ m. join f.quantifier b (holds f.quantifier (place_says W ns f) f.places.start m)) none ∙ join_none f.quantifier b
 
   toll_some : (d : ℕ) → 0 < toll W ns d f
   unfolding toll
@@ -144,7 +143,7 @@ module _ (W : World) (ns : List Node) (f : Frame) where
     one_less = omega arith
 
     -- a frame that goes on
-    after_more : (b : Bool) → b ≡ none_of f.quantifier → after W ns f b ≡ after W ns (onward f) (place_says W ns f f.places.start)
+    after_more : (b : Bool) → not (beq b (none_of f.quantifier)) ≡ false → after W ns f b ≡ after W ns (onward f) (place_says W ns f f.places.start)
     unfolding after
     after_more b same =
         join_more f.quantifier b _ same
@@ -165,8 +164,8 @@ module _ (W : World) (ns : List Node) (fs : List Frame) (f : Frame) (b : Bool) (
         falls = omega (arith, load_push W ns deepest fs f t.under t.high, toll_some W ns f t.under);
       }
 
-  pub resume_stop : (b ≡ none_of f.quantifier → ⊥) → Resumed W ns (fs ++ (f ∷ [])) b fs b
-  resume_stop apart = finish (after_stop W ns f b apart)
+  pub resume_stop : not (beq b (none_of f.quantifier)) ≡ true → Resumed W ns (fs ++ (f ∷ [])) b fs b
+  resume_stop decides = finish (after_stop W ns f b decides)
 
   pub resume_none : left f ≡ 0 → Resumed W ns (fs ++ (f ∷ [])) b fs b
   resume_none none = finish (after_none W ns f b none)
@@ -192,7 +191,7 @@ module _ (W : World) (ns : List Node) (fs : List Frame) (f : Frame) (b : Bool) (
           sounds = pushed;
         }
 
-    pub resume_next : b ≡ none_of f.quantifier → (gs : List Frame) (r : Bool) → Entered W ns (fs ++ (onward f ∷ [])) (kid_of ns f.question.node f.places.start) (sub_of W.cells ns f.question.node f.question.value.0 f.places.start) gs r → Resumed W ns (fs ++ (f ∷ [])) b gs r
+    pub resume_next : not (beq b (none_of f.quantifier)) ≡ false → (gs : List Frame) (r : Bool) → Entered W ns (fs ++ (onward f ∷ [])) (kid_of ns f.question.node f.places.start) (sub_of W.cells ns f.question.node f.question.value.0 f.places.start) gs r → Resumed W ns (fs ++ (f ∷ [])) b gs r
     resume_next same gs r entered =
         let t = sounds_pop W ns deepest fs f sounds in
         let kid = kid_of ns f.question.node f.places.start in
@@ -212,23 +211,3 @@ module _ (W : World) (ns : List Node) (fs : List Frame) (f : Frame) (b : Bool) (
 pub ready_first : (W : World) (limit : ℕ) (ns : List Node) (n v : ℕ) → valid limit ns ≡ true → n < length ns → v < length W.cells → Ready W ns [] n v
 unfolding above Sounds
 ready_first W limit ns n v ok l value = record { node = stands W limit ns ok n l; value = value; sounds = tt }
-
-pub entered_first : (W : World) (ns : List Node) (n v : ℕ) (gs : List Frame) (b : Bool) → Entered W ns [] n v gs b → unwind W ns gs b ≡ accepts W ns n v
-unfolding unwind
-entered_first W ns n v gs b e = e.same
-
-pub told_last : (W : World) (ns : List Node) (b : Bool) → unwind W ns [] b ≡ b
-unfolding unwind
-told_last W ns b = refl
-
-pub differ : (a b : Bool) → not (beq a b) ≡ true → a ≡ b → ⊥
-differ true true h e = grind arith
-differ true false h e = grind arith
-differ false true h e = grind arith
-differ false false h e = grind arith
-
-pub agree : (a b : Bool) → not (beq a b) ≡ false → a ≡ b
-agree true true h = refl
-agree true false h = grind arith
-agree false true h = grind arith
-agree false false h = refl

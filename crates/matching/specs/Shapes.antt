@@ -48,57 +48,24 @@ shape_of Custom d c y = Given (y d.number c.ty c.flags c.mark)
 
 -- which kid it asks at the place i
 abbrev pub kid_by_lem : Kind → ℕ → ℕ
-kid_by_lem IsAny i = 0
-kid_by_lem IsNever i = 0
-kid_by_lem IsStr i = 0
-kid_by_lem IsList i = 0
-kid_by_lem IsListOf i = 0
-kid_by_lem IsTupleOf i = 0
+kid_by_lem IsDictOf i = i % 2
 kid_by_lem IsTupleElems i = i
-kid_by_lem IsTupleElems0 i = 0
 kid_by_lem IsTupleElems1 i = i
 kid_by_lem IsTupleElems2 i = i
-kid_by_lem IsDict i = 0
-kid_by_lem IsDictOf i = i % 2
-kid_by_lem IsSet i = 0
-kid_by_lem IsSetOf i = 0
 kid_by_lem IsAnyOfTwo i = i
 kid_by_lem IsAnyOf i = i
-kid_by_lem IsCallable i = 0
-kid_by_lem IsType i = 0
-kid_by_lem IsIterable i = 0
-kid_by_lem IsInt i = 0
-kid_by_lem IsBool i = 0
-kid_by_lem IsNone i = 0
-kid_by_lem StarlarkTypeIdMatcher i = 0
-kid_by_lem Custom i = 0
+kid_by_lem _ i = 0
 
 -- whether it asks it of the part i, or of the value itself
 abbrev pub inside : Kind → Bool
-inside IsAny = false
-inside IsNever = false
-inside IsStr = false
-inside IsList = false
 inside IsListOf = true
 inside IsTupleOf = true
 inside IsTupleElems = true
-inside IsTupleElems0 = false
 inside IsTupleElems1 = true
 inside IsTupleElems2 = true
-inside IsDict = false
 inside IsDictOf = true
-inside IsSet = false
 inside IsSetOf = true
-inside IsAnyOfTwo = false
-inside IsAnyOf = false
-inside IsCallable = false
-inside IsType = false
-inside IsIterable = false
-inside IsInt = false
-inside IsBool = false
-inside IsNone = false
-inside StarlarkTypeIdMatcher = false
-inside Custom = false
+inside _ = false
 
 unfoldable pub shape : World → List Node → ℕ → ℕ → Shape
 shape W ns n v = shape_of (node_at_lem ns n).kind (node_at_lem ns n) (cell_at W.cells v) W.says

@@ -78,6 +78,7 @@ pub fn run<H: Heap, S: TypeMatcherAlloc, C: TyCustom>(
         store,
         customs,
     };
+    // A check may neither recurse nor allocate: the frames that wait lie in the stack.
     let mut stack = ArrayVec::new();
     let mut answer = setting.enter(root, value, &mut stack);
     while let Some(f) = stack.pop() {

@@ -2,7 +2,8 @@ use Rattle.std.proofs.Common.{◌≡◌, ◌<◌, length, arith, rules}
 use Rattle.std.proofs.lemmas.Bool.Decides.{nat_tests}
 use Rattle.matcher.specs.Nodes.{node_at_lem}
 use Rattle.matching.proofs.Places.{depth_of, stands_in}
-use Rattle.matching.proofs.Turns.{few, shape_is, enter_given, enter_fresh}
+use Rattle.matching.proofs.Tops.{above_length}
+use Rattle.matching.proofs.Turns.{shape_is, enter_given, enter_fresh}
 use Rattle.matching.proofs.setting.Setting.enter.Goals as goal
 
 pub unwrap-requires : goal.unwrap-requires
@@ -10,13 +11,10 @@ unwrap-requires g c =
     let in_store : c.args.n < length (g.S.TypeMatcherAlloc.nodes c.args.self.now.store.now) = stands_in _ _ _ c.requires.node in
     grind (arith, nat_tests)
 
-pub shape-requires : goal.shape-requires
-shape-requires g c = record { node = stands_in _ _ _ c.requires.node; value = c.requires.value }
-
 pub push-requires : goal.push-requires
 push-requires g c =
     let d = depth_of _ _ _ c.requires.node in
-    let low : length c.args.stack.now.items < 64 = few _ d.0 d.1 in
+    let low : length c.args.stack.now.items < 64 = above_length _ _ d.0 d.1 in
     search rules
 
 pub returns-in-Given : goal.returns-in-Given

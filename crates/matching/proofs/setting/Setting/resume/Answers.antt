@@ -3,13 +3,13 @@ use Rattle.matching.specs.Settings.{world_of}
 use Rattle.matching.specs.Shapes.{kid_of, sub_of}
 use Rattle.matching.specs.declared.frames.Frame.{Frame}
 use Rattle.matching.proofs.Places.{stands_in}
-use Rattle.matching.proofs.Tops.{sounds_pop}
-use Rattle.matching.proofs.Turns.{differ, agree, few, here, frame, onward, ready_next, resume_stop, resume_none, resume_next}
+use Rattle.matching.proofs.Tops.{above_length, sounds_pop}
+use Rattle.matching.proofs.Turns.{here, frame, onward, ready_next, resume_stop, resume_none, resume_next}
 use Rattle.matching.proofs.setting.Setting.resume.Goals as goal
 
 pub returns-then-told-of_none : goal.returns-then-told-of_none
 returns-then-told-of_none g c =
-    resume_stop _ _ _ c.args.f c.args.told c.requires (differ c.args.told _ (rw c.of_none.ensures at c.if-told-of_none.true))
+    resume_stop _ _ _ c.args.f c.args.told c.requires (rw c.of_none.ensures at c.if-told-of_none.true)
 
 pub returns-in_default : goal.returns-in_default
 returns-in_default g c = resume_none _ _ _ c.args.f c.args.told c.requires c.in_default.ensures.steps.1.0
@@ -31,7 +31,7 @@ place-kid-requires-clause-place g c =
 pub push-requires : goal.push-requires
 push-requires g c =
     let t = sounds_pop _ _ _ _ _ c.requires in
-    let low : length c.args.stack.now.items < 64 = few _ t.under t.high in
+    let low : length c.args.stack.now.items < 64 = above_length _ _ t.under t.high in
     search rules
 
 moved : (f : Frame) (gs fs : List Frame) (i j : ℕ) → gs ≡ fs ++ (frame f.question f.quantifier i j ∷ []) → i ≡ f.places.start + 1 → j ≡ f.places.end → gs ≡ fs ++ (onward f ∷ [])
@@ -57,4 +57,4 @@ returns g c =
     let pushed : c.push.new.self.items ≡ c.args.stack.now.items ++ (onward f ∷ []) = moved f _ _ _ _ c.push.ensures.items step.1.2 step.0 in
     let kid : c.place-kid.result.0 ≡ kid_of ns f.question.node f.places.start = rw step.1.1 at c.place-kid.ensures.kid in
     let sub : c.place-kid.result.1.0 ≡ sub_of W.cells ns f.question.node f.question.value.0 f.places.start = rw step.1.1 at c.place-kid.ensures.value in
-    resume_next W ns c.args.stack.now.items f c.args.told c.requires step.1.0 (agree c.args.told _ (rw c.of_none.ensures at c.if-told-of_none.false)) _ _ (rw (pushed, kid, sub) at c.enter.ensures)
+    resume_next W ns c.args.stack.now.items f c.args.told c.requires step.1.0 (rw c.of_none.ensures at c.if-told-of_none.false) _ _ (rw (pushed, kid, sub) at c.enter.ensures)
