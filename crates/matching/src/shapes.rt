@@ -107,7 +107,9 @@ impl<H: Heap, S: TypeMatcherAlloc, C: TyCustom> Setting<'_, H, S, C> {
             Kind::IsInt => Shape::Given(heap.unpack_int(v).unwrap().is_some()),
             Kind::IsBool => Shape::Given(heap.unpack_bool(v).unwrap().is_some()),
             Kind::IsNone => Shape::Given(heap.is_none(v).unwrap()),
-            Kind::StarlarkTypeIdMatcher => Shape::Given(it.head().ty == store.number(q.node).unwrap()),
+            Kind::StarlarkTypeIdMatcher => Shape::Given(
+                it.head().ty == store.number(q.node).unwrap(),
+            ),
             Kind::Custom => Shape::Given(self.is_custom(q.node, it.head())),
         }
     }
