@@ -13,7 +13,6 @@ use custom::ty_custom::TyCustom;
 use matcher::alloc::TypeMatcherAlloc;
 use matcher::kind::Kind;
 use values::built_in::BuiltIn;
-use values::head::Head;
 use values::heap::Heap;
 use values::value::Value;
 
@@ -67,21 +66,13 @@ impl<H: Heap, S: TypeMatcherAlloc, C: TyCustom> Setting<'_, H, S, C> {
         }
     }
 
-    // What the custom of the node n says of a head.
-    fn is_custom(&self, n: usize, head: Head) -> bool
-        requires { n < length (S.nodes self.now.store.now) }
-        ensures { result ≡ (C.custom self.now.customs.now).says (node_at_lem (S.nodes self.now.store.now) n).number head.ty head.flags head.mark }
-    {
-        let number = self.store.number(n).unwrap();
-        self.customs.matches(number, head.ty, head.flags, head.mark)
-    }
-
     pub(crate) fn shape(&self, q: Question) -> Shape
         requires node { q.node < length (S.nodes self.now.store.now) }
         requires value { q.value.0 < length (H.cells self.now.heap.now) }
         ensures { result ≡ shape_of q.kind (node_at_lem (S.nodes self.now.store.now) q.node) (cell_at (H.cells self.now.heap.now) q.value.0) (C.custom self.now.customs.now).says }
     {
         let Setting { heap, store, .. } = self;
+        let n = q.node;
         let v = q.value;
         let it = Subject::new(*heap, v);
         match q.kind {
@@ -91,7 +82,7 @@ impl<H: Heap, S: TypeMatcherAlloc, C: TyCustom> Setting<'_, H, S, C> {
             Kind::IsList => Shape::Given(it.is(BuiltIn::List)),
             Kind::IsListOf => it.every_part(BuiltIn::List),
             Kind::IsTupleOf => it.every_part(BuiltIn::Tuple),
-            Kind::IsTupleElems => it.every_place(store.kids(q.node).unwrap()),
+            Kind::IsTupleElems => it.every_place(store.kids(n).unwrap()),
             Kind::IsTupleElems0 => Shape::Given(it.is_long(0)),
             Kind::IsTupleElems1 => it.every_place(1),
             Kind::IsTupleElems2 => it.every_place(2),
@@ -100,17 +91,15 @@ impl<H: Heap, S: TypeMatcherAlloc, C: TyCustom> Setting<'_, H, S, C> {
             Kind::IsSet => Shape::Given(it.is(BuiltIn::Set)),
             Kind::IsSetOf => it.every_part(BuiltIn::Set),
             Kind::IsAnyOfTwo => Shape::Asks(Quantifier::Either, 2),
-            Kind::IsAnyOf => Shape::Asks(Quantifier::Either, store.kids(q.node).unwrap()),
+            Kind::IsAnyOf => Shape::Asks(Quantifier::Either, store.kids(n).unwrap()),
             Kind::IsCallable => Shape::Given(it.has(CALLABLE)),
             Kind::IsType => Shape::Given(it.has(TYPE)),
             Kind::IsIterable => Shape::Given(it.has(ITERABLE)),
             Kind::IsInt => Shape::Given(heap.unpack_int(v).unwrap().is_some()),
             Kind::IsBool => Shape::Given(heap.unpack_bool(v).unwrap().is_some()),
             Kind::IsNone => Shape::Given(heap.is_none(v).unwrap()),
-            Kind::StarlarkTypeIdMatcher => Shape::Given(
-                it.head().ty == store.number(q.node).unwrap(),
-            ),
-            Kind::Custom => Shape::Given(self.is_custom(q.node, it.head())),
+            Kind::StarlarkTypeIdMatcher => Shape::Given(it.head().ty == store.number(n).unwrap()),
+            Kind::Custom => Shape::Given(self.customs.matches(store.number(n).unwrap(), it.head())),
         }
     }
 }
