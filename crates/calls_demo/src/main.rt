@@ -18,22 +18,12 @@ use working_set::set::WorkingSet;
 // The places of the store.
 const PLACES: u16 = 64;
 
+// A line for each outcome.
 fn show(rt: HostRuntime, outcomes: &[Outcome]) -> anyhow::Result<()> {
-    for (i, o) in outcomes.iter().enumerate() {
-        match o {
-            Outcome::Value(Value(v)) => println!(rt; "{i} value {v}")?,
-            Outcome::Done => println!(rt; "{i} done")?,
-            Outcome::Ty(t) => println!(rt; "{i} type {t}")?,
-            Outcome::Compiled(a) => {
-                let n = a.0;
-                println!(rt; "{i} annotation {n}")?;
-            }
-            Outcome::Says(true) => println!(rt; "{i} yes")?,
-            Outcome::Says(false) => println!(rt; "{i} no")?,
-            Outcome::Refused(e) => {
-                let n = e.code();
-                println!(rt; "{i} refused {n}")?;
-            }
+    for (i, outcome) in outcomes.iter().enumerate() {
+        match outcome {
+            Ok(granted) => println!(rt; "{i} {granted}")?,
+            Err(why) => println!(rt; "{i} refused {}", why.code())?,
         }
     }
     Ok(())
@@ -50,19 +40,18 @@ fn main(rt: HostRuntime) -> anyhow::Result<()> {
         return Ok(());
     };
     let mut set = WorkingSet::over(heap, below, store, customs)?;
-    let mut calls = Vec::new(heap);
-    make_types(&mut calls)?;
-    make_cells(heap, &mut calls)?;
-    check_cells(heap, &mut calls)?;
-    check_customs(heap, &mut calls)?;
-    make_wide_types(heap, &mut calls)?;
+    let mut calls = make_types(heap)?;
+    calls.append(&mut make_cells(heap)?)?;
+    calls.append(&mut check_cells(heap)?)?;
+    calls.append(&mut check_customs(heap)?)?;
+    calls.append(&mut make_wide_types(heap)?)?;
     let mut outcomes = Vec::with_capacity(heap, 3)?;
-    if set.perform(&calls, &mut outcomes).is_err() {
-        println!(rt; "no room for the outcomes")?;
+    if let Err(full) = set.perform(&calls, &mut outcomes) {
+        println!(rt; "{full}")?;
     }
     let mut outcomes = Vec::with_capacity(heap, calls.len())?;
-    if set.perform(&calls, &mut outcomes).is_err() {
-        println!(rt; "no room for the outcomes")?;
+    if let Err(full) = set.perform(&calls, &mut outcomes) {
+        println!(rt; "{full}")?;
     }
     show(rt, &outcomes)
 }

@@ -1,9 +1,10 @@
 -- Lists read place by place, and lists that grow by one. Assumes nothing.
-use Rattle.std.proofs.Common.{◌≡◌, ℕ, zero, suc, ◌+◌, ◌<◌, List, [], ◌∷◌, ◌++◌, map, length, get_or, take, sym, ap, ◌∙◌, append_assoc, append-nil, arith}
+use Rattle.std.proofs.Common.{◌≡◌, ℕ, zero, suc, ◌+◌, ◌<◌, List, [], ◌∷◌, ◌++◌, map, length, get_or, take, sym, ap, ◌∙◌, append_assoc, append-nil, arith, Result}
 use mathlib.Core.List.{map-append}
 use Rattle.std.proofs.lemmas.List.{take_more}
 use Rattle.working_set.specs.Words.{told}
-use Rattle.working_set.specs.declared.outcomes.Outcome.{Outcome}
+use Rattle.working_set.specs.declared.outcomes.Granted.{Granted}
+use Rattle.values.specs.declared.refusal.Refusal.{Refusal}
 use Rattle.report.specs.Asking.{OfCheck, OfChecks}
 use Rattle.report.specs.Lines.{answer_text, answer_lines}
 use Rattle.report.specs.declared.answer.Answer.{Answer}
@@ -20,7 +21,7 @@ pub map_take : {A B : Type 0} (f : A → B) (xs : List A) (i : ℕ) (d : A) → 
 map_take f xs i d h = ap (map f) (take_more xs i d h) ∙ map-append f (take i xs) (get_or xs i d ∷ [])
 
 -- one of the outcomes of checks
-pub of_at : (os : List Outcome) (i : ℕ) (d : Outcome) → OfChecks (map told os) → i < length os → OfCheck (told (get_or os i d))
+pub of_at : (os : List (Result Granted Refusal)) (i : ℕ) (d : Result Granted Refusal) → OfChecks (map told os) → i < length os → OfCheck (told (get_or os i d))
 of_at [] i d c h = absurd (omega arith)
 of_at (o ∷ os) zero d c h = c.0
 of_at (o ∷ os) (suc i) d c h = of_at os i d c.1 (omega arith)

@@ -1,17 +1,25 @@
 -- The outcomes of checks that ask queries, and the answers that they are. Assumes nothing.
-use Rattle.std.proofs.Common.{◌≡◌, ℕ, Bool, true, false, cond, ◌&&◌, eqb, ltb, List, [], ◌∷◌, map, length, Ok, Err, Result, sym, refl, ap, ◌∙◌, subst, ap₂, arith}
+use Rattle.std.proofs.Common.{◌≡◌, ℕ, ◌+◌, ◌≤◌, Bool, true, false, cond, ◌&&◌, eqb, ltb, List, [], ◌∷◌, ◌++◌, map, length, Ok, Err, Result, IsOk, sym, refl, ap, ◌∙◌, subst, ap₂, arith}
 use Rattle.std.proofs.lemmas.List.{length-map}
 use Rattle.values.specs.Refusals.{number}
+use Rattle.values.specs.declared.heap.Heap.{Ghosts as Heap}
 use Rattle.values.specs.declared.refusal.Refusal.{Refusal}
 use Rattle.values.specs.declared.refusal.Refusal.TheVariants.{NoType, NoNode, NoValue, BadForm, Frozen, NoItem, TooDeep, TooWide, TooHeavy, NoRoom}
 use Rattle.custom.specs.Customs.{Custom}
+use Rattle.custom.specs.declared.ty_custom.TyCustom.{Ghosts as TyCustom}
+use Rattle.matcher.specs.declared.alloc.TypeMatcherAlloc.{Ghosts as TypeMatcherAlloc}
 use Rattle.matcher.specs.Meaning.{accepts}
 use Rattle.runs.specs.Acts.{Act, Answer as Told, value_is, done, type_is, annotation_is, says, refused, check_told}
 use Rattle.runs.specs.States.{State, annotation_in, world_of, answer, after}
 use Rattle.runs.specs.Runs.{Step, Run}
 use Rattle.runs.specs.Throughout.{Ran}
-use Rattle.working_set.specs.Words.{told}
-use Rattle.working_set.specs.declared.outcomes.Outcome.{Outcome}
+use Rattle.working_set.specs.Words.{act, told}
+use Rattle.working_set.specs.Sets.{state_of}
+use Rattle.working_set.specs.Performed.{Places, MadeAll, Performed}
+use Rattle.working_set.specs.declared.calls.Call.{Call}
+use Rattle.working_set.specs.declared.outcomes.Granted.{Granted}
+use Rattle.working_set.specs.declared.outcomes.OutcomesFull.{OutcomesFull}
+use Rattle.working_set.specs.declared.set.WorkingSet.{WorkingSet}
 use Rattle.job_format.specs.declared.query.Query.{Query}
 use Rattle.report.specs.Asking.{asks, tells, query_of, OfCheck, OfChecks, Asked}
 use Rattle.report.specs.declared.answer.Answer.{Answer}
@@ -96,24 +104,35 @@ answers_are f given qs e t =
     subst (λ (xs : List Query). given ≡ map (λ q. record { annotation = q.annotation; value = q.value; says = f q }) xs) e
     (by_queries f given (subst (λ (xs : List Query). map tells given ≡ map (λ q. check_told (f q)) xs) (sym e) t))
 
--- calls that ask queries have the outcomes of checks, one for each query
-pub record Performed (c : Custom) (shares : Bool) (s : State) (qs : List Query) (os : List Outcome) : Type 0 where
+abbrev Outcomes : Type 0
+Outcomes = List (Result Granted Refusal)
+
+-- calls that ask queries have the outcomes of checks, one for each query; answers that tell those outcomes are what is asked
+pub record Replied (c : Custom) (shares : Bool) (s : State) (qs : List Query) (os : Outcomes) : Type 0 where
   pub of_checks : OfChecks (map told os)
   pub each : length os ≡ length qs
+  pub asked : (given : List Answer) → map query_of given ≡ qs → map tells given ≡ map told os → Asked c shares s qs given
 
-pub performed : (c : Custom) (shares : Bool) (s t : State) (calls : List Act) (os : List Outcome) (qs : List Query) → calls ≡ map asks qs → Ran c shares s calls (map told os) t → Performed c shares s qs os
-performed c shares s t calls os qs e r =
-    let same : map told os ≡ map (reply c shares s) qs = sym r.answered ∙ replies c shares s r.steps qs r.run (r.called ∙ e) in
+replied : (c : Custom) (shares : Bool) (s t : State) (os : Outcomes) (qs : List Query) → Ran c shares s (map asks qs) (map told os) t → Replied c shares s qs os
+replied c shares s t os qs r =
+    let same : map told os ≡ map (reply c shares s) qs = sym r.answered ∙ replies c shares s r.steps qs r.run r.called in
     record {
       of_checks = subst OfChecks (sym same) (of_replies c shares s qs);
       each = sym (length-map os told) ∙ ap length same ∙ length-map qs (reply c shares s);
+      asked = λ given q a. record { of_queries = q; left = t; ran = subst (λ (xs : List Told). Ran c shares s (map asks qs) xs t) (sym a) r };
     }
 
--- the answers that those outcomes are
-pub asked_by : (c : Custom) (shares : Bool) (s t : State) (calls : List Act) (os : List Outcome) (qs : List Query) (given : List Answer)
-    → calls ≡ map asks qs → Ran c shares s calls (map told os) t → map query_of given ≡ qs → map tells given ≡ map told os → Asked c shares s qs given
-asked_by c shares s t calls os qs given e r q a = record {
-  of_queries = q;
-  left = t;
-  ran = subst (λ (xs : List Told). Ran c shares s (map asks qs) xs t) (sym a) (subst (λ (xs : List Act). Ran c shares s xs (map told os) t) e r);
-}
+pub made_replies : {H S C : Type 0} (h : Heap H) (s : TypeMatcherAlloc S) (c : TyCustom C) (calls : List Call) (w w' : WorkingSet H S C) (before after : Places) (qs : List Query) (os : Outcomes)
+    → MadeAll h s c calls w w' before after → before.items ≡ [] → map act calls ≡ map asks qs → os ≡ after.items
+    → Replied (c.custom w.customs) s.sharing (state_of h.cells s.nodes s.limit w) qs os
+made_replies h s c calls w w' before after qs os m none ask is =
+    let k = c.custom w.customs in
+    let st : WorkingSet _ _ _ → State = state_of h.cells s.nodes s.limit in
+    let all : os ≡ m.outcomes = is ∙ ap (λ (p : Places). p.items) m.written ∙ ap (λ (xs : Outcomes). xs ++ m.outcomes) none in
+    subst (Replied k s.sharing (st w) qs) (sym all) (replied k s.sharing (st w) (st w') m.outcomes qs (subst (λ (xs : List Act). Ran k s.sharing (st w) xs (map told m.outcomes) (st w')) ask m.ran))
+
+-- with room for the outcomes, the calls are made
+pub has_room : {H S C : Type 0} (h : Heap H) (s : TypeMatcherAlloc S) (c : TyCustom C) (calls : List Call) (w w' : WorkingSet H S C) (before after : Places) (r : Result Unit OutcomesFull)
+    → Performed h s c calls w w' before after r → length before.items + length calls ≤ before.capacity → IsOk r
+has_room h s c calls w w' before after (Ok u) p room = refl
+has_room h s c calls w w' before after (Err e) p room = absurd (omega (arith, p.full))

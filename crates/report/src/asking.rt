@@ -18,7 +18,7 @@ use values::heap::Heap;
 use values::refusal::Refusal;
 use values::value::Value;
 use working_set::calls::Call;
-use working_set::outcomes::Outcome;
+use working_set::outcomes::{Granted, Outcome};
 use working_set::set::WorkingSet;
 
 // The queries of a job, in their order.
@@ -40,13 +40,14 @@ pub(crate) fn queries_of(memory: Global, job: &Job) -> Result<Vec<Query>, AllocE
 fn calls_of(memory: Global, queries: &[Query]) -> Result<Vec<Call>, AllocError>
     ensures { IfOk result (λ cs. map act cs.items ≡ map asks queries.now) }
 {
-    let mut all = Vec::with_capacity(memory, queries.len())?;
-    for query in queries {
-        let annotation = TypeCompiled(query.annotation as usize);
-        let value = Value(query.value as usize);
-        all.push_reserved(Call::Check(annotation, value));
-    }
-    Ok(all)
+    queries
+        .iter()
+        .map(|query| {
+            let annotation = TypeCompiled(query.annotation as usize);
+            let value = Value(query.value as usize);
+            Call::Check(annotation, value)
+        })
+        .collect(memory)
 }
 
 // What a check said.
@@ -54,10 +55,9 @@ fn said(outcome: Outcome) -> Result<bool, Refusal>
     requires { OfCheck (told outcome) }
     ensures { check_told result ≡ told outcome }
 {
-    match outcome {
-        Outcome::Says(is_member) => Ok(is_member),
-        Outcome::Refused(why) => Err(why),
-        _ => unreachable(),
+    match outcome? {
+        Granted::Says(is_member) => Ok(is_member),
+        _ => unreachable!(),
     }
 }
 
@@ -71,14 +71,12 @@ fn answers_of(
     requires each { length outcomes.now ≡ length queries.now }
     ensures { IfOk result (λ xs. (map query_of xs.items ≡ queries.now) × (map tells xs.items ≡ map told outcomes.now)) }
 {
-    let n = queries.len();
-    let mut all = Vec::with_capacity(memory, n)?;
-    for i in 0..n {
-        let query = queries[i];
+    let mut all = Vec::with_capacity(memory, queries.len())?;
+    for (query, outcome) in queries.iter().zip(outcomes) {
         all.push_reserved(Answer {
             annotation: query.annotation,
             value: query.value,
-            says: said(outcomes[i]),
+            says: said(*outcome),
         });
     }
     Ok(all)
@@ -90,12 +88,10 @@ pub(crate) fn ask<H: Heap, S: TypeMatcherAlloc, C: TyCustom>(
     set: &mut WorkingSet<H, S, C>,
     queries: &[Query],
 ) -> Result<Vec<Answer>, AllocError>
-    ensures { IfOk result (λ xs. Asked (C.TyCustom.custom set.old.customs) S.TypeMatcherAlloc.sharing (state_of H.Heap.cells S.TypeMatcherAlloc.nodes S.TypeMatcherAlloc.limit set.old) queries.now xs.items) }
+    ensures { IfOk result (λ xs. Asked (C.custom set.old.customs) S.sharing (state_of H.cells S.nodes S.limit set.old) queries.now xs.items) }
 {
     let calls = calls_of(memory, queries)?;
     let mut outcomes = Vec::with_capacity(memory, queries.len())?;
-    match set.perform(&calls, &mut outcomes) {
-        Ok(()) => answers_of(memory, queries, &outcomes),
-        Err(_) => unreachable(),
-    }
+    set.perform(&calls, &mut outcomes).unwrap();
+    answers_of(memory, queries, &outcomes)
 }

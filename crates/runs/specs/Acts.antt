@@ -25,19 +25,19 @@ pub data Answer : Type 0 where
   says : Bool → Answer
   refused : ℕ → Answer
 
--- the answer that a result says
+-- the answer that a result says: what it grants, as `grants` says it, or the refusal's number
+abbrev pub told_as : {A : Type 0} → (A → Answer) → Result A Refusal → Answer
+told_as grants (Ok x) = grants x
+told_as grants (Err why) = refused (number why)
+
 abbrev pub value_told : Result Value Refusal → Answer
-value_told (Ok v) = value_is v.0
-value_told (Err f) = refused (number f)
+value_told = told_as (λ v. value_is v.0)
 
 abbrev pub done_told : Result Unit Refusal → Answer
-done_told (Ok u) = done
-done_told (Err f) = refused (number f)
+done_told = told_as (λ _. done)
 
 abbrev pub type_told : Result ℕ Refusal → Answer
-type_told (Ok t) = type_is t
-type_told (Err f) = refused (number f)
+type_told = told_as type_is
 
 abbrev pub check_told : Result Bool Refusal → Answer
-check_told (Ok b) = says b
-check_told (Err f) = refused (number f)
+check_told = told_as says

@@ -1,10 +1,12 @@
 -- What a working set means, and the effect of a call on it. Assumes nothing.
-use Rattle.std.specs.Prelude.{◌≡◌, ℕ, Bool, List, []}
+use Rattle.std.specs.Prelude.{◌≡◌, ℕ, List, []}
 use Rattle.values.specs.Cells.{Cell}
 use Rattle.values.specs.Held.{live_of}
 use Rattle.values.specs.declared.live.LiveHeap.{LiveHeap}
-use Rattle.custom.specs.Customs.{Custom}
+use Rattle.values.specs.declared.heap.Heap.{Ghosts as Heap}
+use Rattle.custom.specs.declared.ty_custom.TyCustom.{Ghosts as TyCustom}
 use Rattle.matcher.specs.Nodes.{Node}
+use Rattle.matcher.specs.declared.alloc.TypeMatcherAlloc.{Ghosts as TypeMatcherAlloc}
 use Rattle.typing.specs.Held.{rows_of}
 use Rattle.typing.specs.declared.types.Types.{Types}
 use Rattle.type_compiled.specs.Compiled.{annotations_of}
@@ -26,16 +28,16 @@ state_of cells nodes limit w = record {
 abbrev pub working_set_of : {H S C : Type 0} → LiveHeap H → Types → S → Annotations → C → WorkingSet H S C
 working_set_of live types store annotations customs = record { live = live; types = types; store = store; annotations = annotations; customs = customs }
 
--- a call has its outcome; the custom and the heap below stay as they were
-pub record Effect {H S C : Type 0} (cells : H → List Cell) (nodes : S → List Node) (limit : S → ℕ) (shares : Bool) (custom : C → Custom) (w : WorkingSet H S C) (call : Act) (o : Answer) (w' : WorkingSet H S C) : Type 0 where
-  pub outcome : OutcomeOf (custom w.customs) shares (state_of cells nodes limit w) call o (state_of cells nodes limit w')
+-- a call has its outcome, by what the heap, the store and the custom mean; the custom and the heap below stay as they were
+pub record Effect {H S C : Type 0} (h : Heap H) (s : TypeMatcherAlloc S) (c : TyCustom C) (w : WorkingSet H S C) (call : Act) (o : Answer) (w' : WorkingSet H S C) : Type 0 where
+  pub outcome : OutcomeOf (c.custom w.customs) s.sharing (state_of h.cells s.nodes s.limit w) call o (state_of h.cells s.nodes s.limit w')
   pub customs : w'.customs ≡ w.customs
   pub below : w'.live.below ≡ w.live.below
 
 -- a set that was made over a heap, a store and a custom: it has their cells, nodes and limit, and is blank where the store is
-pub record Begun {H S C : Type 0} (cells : H → List Cell) (nodes : S → List Node) (limit : S → ℕ) (below : H) (store : S) (customs : C) (w : WorkingSet H S C) : Type 0 where
-  pub blank : nodes store ≡ [] → Blank (state_of cells nodes limit w)
-  pub cells_are : (state_of cells nodes limit w).heap.cells ≡ cells below
+pub record Begun {H S C : Type 0} (h : Heap H) (s : TypeMatcherAlloc S) (below : H) (store : S) (customs : C) (w : WorkingSet H S C) : Type 0 where
+  pub blank : s.nodes store ≡ [] → Blank (state_of h.cells s.nodes s.limit w)
+  pub cells_are : (state_of h.cells s.nodes s.limit w).heap.cells ≡ h.cells below
   pub store_is : w.store ≡ store
   pub customs_are : w.customs ≡ customs
   pub below_is : w.live.below ≡ below

@@ -7,7 +7,11 @@ pub enum Call {
     // A new cell: type number, flags, mark and parts.
     New(u16, u8, i64, Vec<Value>),
     // Sets the part of a value at a place.
-    Put(Value, usize, Value),
+    Put {
+        value: Value,
+        place: usize,
+        part: Value,
+    },
     Freeze,
     StarlarkValue(u16),
     Iter(usize),
@@ -16,7 +20,10 @@ pub enum Call {
     List(usize),
     Tuple(Vec<usize>),
     TupleOf(usize),
-    Dict(usize, usize),
+    Dict {
+        key: usize,
+        value: usize,
+    },
     Custom(u16),
     Set(usize),
     Union2(usize, usize),

@@ -16,7 +16,7 @@ use values::value::Value;
 impl<H: Heap, S: TypeMatcherAlloc, C: TyCustom> WorkingSet<H, S, C> {
     // Compiles the factory's type: the number of a new annotation.
     pub fn alloc_ty(&mut self, factory: TypeCompiledFactory) -> Result<TypeCompiled, Refusal>
-        ensures { Effect H.Heap.cells S.TypeMatcherAlloc.nodes S.TypeMatcherAlloc.limit S.TypeMatcherAlloc.sharing C.TyCustom.custom self.old (alloc_type factory.ty) (annotation_told result) self.new }
+        ensures { Effect H.Heap S.TypeMatcherAlloc C.TyCustom self.old (alloc_type factory.ty) (annotation_told result) self.new }
     {
         alloc_ty(
             factory,
@@ -29,7 +29,7 @@ impl<H: Heap, S: TypeMatcherAlloc, C: TyCustom> WorkingSet<H, S, C> {
 
     // Whether a value is a member of a compiled annotation.
     pub fn check(&self, a: TypeCompiled, v: Value) -> Result<bool, Refusal>
-        ensures { Effect H.Heap.cells S.TypeMatcherAlloc.nodes S.TypeMatcherAlloc.limit S.TypeMatcherAlloc.sharing C.TyCustom.custom self.now (check_value a.0 v.0) (check_told result) self.now }
+        ensures { Effect H.Heap S.TypeMatcherAlloc C.TyCustom self.now (check_value a.0 v.0) (check_told result) self.now }
     {
         let root = self.annotations.root(a)?;
         run(root, v, &self.live, &self.store, &self.customs)

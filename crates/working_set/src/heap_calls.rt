@@ -14,21 +14,21 @@ use values::value::Value;
 impl<H: Heap, S: TypeMatcherAlloc, C: TyCustom> WorkingSet<H, S, C> {
     // A new cell, whose parts already stand.
     pub fn new(&mut self, ty: u16, flags: u8, mark: i64, parts: &[Value]) -> Result<Value, Refusal>
-        ensures { Effect H.Heap.cells S.TypeMatcherAlloc.nodes S.TypeMatcherAlloc.limit S.TypeMatcherAlloc.sharing C.TyCustom.custom self.old (new_cell (cell ty flags mark (numbers parts.now))) (value_told result) self.new }
+        ensures { Effect H.Heap S.TypeMatcherAlloc C.TyCustom self.old (new_cell (cell ty flags mark (numbers parts.now))) (value_told result) self.new }
     {
         self.live.new(Head { ty, flags, mark }, parts)
     }
 
     // Sets an item of a list or a value of a dict.
     pub fn put(&mut self, v: Value, i: usize, x: Value) -> Result<(), Refusal>
-        ensures { Effect H.Heap.cells S.TypeMatcherAlloc.nodes S.TypeMatcherAlloc.limit S.TypeMatcherAlloc.sharing C.TyCustom.custom self.old (put_part v.0 i x.0) (done_told result) self.new }
+        ensures { Effect H.Heap S.TypeMatcherAlloc C.TyCustom self.old (put_part v.0 i x.0) (done_told result) self.new }
     {
         self.live.put(v, i, x)
     }
 
     // Fixes every cell that stands now.
     pub fn freeze(&mut self)
-        ensures { Effect H.Heap.cells S.TypeMatcherAlloc.nodes S.TypeMatcherAlloc.limit S.TypeMatcherAlloc.sharing C.TyCustom.custom self.old freeze_all done self.new }
+        ensures { Effect H.Heap S.TypeMatcherAlloc C.TyCustom self.old freeze_all done self.new }
     {
         self.live.freeze();
     }

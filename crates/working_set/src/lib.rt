@@ -8,5 +8,4 @@ pub mod making;
 pub mod outcomes;
 pub mod performing;
 pub mod set;
-mod told;
 pub mod type_calls;

@@ -25,7 +25,7 @@ impl<H: Heap, S: TypeMatcherAlloc, C: TyCustom> WorkingSet<H, S, C> {
         H: Drop,
         S: Drop,
         C: Drop,
-        ensures { IfOk result (Begun H.Heap.cells S.TypeMatcherAlloc.nodes S.TypeMatcherAlloc.limit below store customs) }
+        ensures { IfOk result (Begun H.Heap S.TypeMatcherAlloc below store customs) }
     {
         let live = LiveHeap::over(heap, below)?;
         let types = Types::new(heap)?;
@@ -39,7 +39,7 @@ impl<H: Heap, S: TypeMatcherAlloc, C: TyCustom> WorkingSet<H, S, C> {
         })
     }
 
-    // A working set of parts that were made elsewhere.
+    // A working set of parts that were made elsewhere. They come one by one, since a struct of them would be this one again.
     pub fn of_parts(
         live: LiveHeap<H>,
         types: Types,

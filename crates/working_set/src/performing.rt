@@ -4,9 +4,8 @@ ghost use Rattle.working_set.specs.Words.{act, told};
 ghost use Rattle.working_set.specs.Performed.{Performed, places};
 
 use crate::calls::Call;
-use crate::outcomes::{Outcome, OutcomesFull};
+use crate::outcomes::{Granted, Outcome, OutcomesFull};
 use crate::set::WorkingSet;
-use crate::told::{annotation_outcome, check_outcome, done_outcome, type_outcome, value_outcome};
 use custom::ty_custom::TyCustom;
 use matcher::alloc::TypeMatcherAlloc;
 use type_compiled::factory::TypeCompiledFactory;
@@ -15,28 +14,34 @@ use values::heap::Heap;
 impl<H: Heap, S: TypeMatcherAlloc, C: TyCustom> WorkingSet<H, S, C> {
     // One call.
     fn make(&mut self, call: &Call) -> Outcome
-        ensures { Effect H.Heap.cells S.TypeMatcherAlloc.nodes S.TypeMatcherAlloc.limit S.TypeMatcherAlloc.sharing C.TyCustom.custom self.old (act call.now) (told result) self.new }
+        ensures { Effect H.Heap S.TypeMatcherAlloc C.TyCustom self.old (act call.now) (told result) self.new }
     {
         match call {
-            Call::New(ty, flags, mark, parts) => value_outcome(self.new(*ty, *flags, *mark, parts)),
-            Call::Put(v, i, x) => done_outcome(self.put(*v, *i, *x)),
+            Call::New(ty, flags, mark, parts) => self
+                .new(*ty, *flags, *mark, parts)
+                .map(Granted::Value),
+            Call::Put { value, place, part } => {
+                self.put(*value, *place, *part).map(|()| Granted::Done)
+            }
             Call::Freeze => {
                 self.freeze();
-                Outcome::Done
+                Ok(Granted::Done)
             }
-            Call::StarlarkValue(number) => type_outcome(self.starlark_value(*number)),
-            Call::Iter(item) => type_outcome(self.iter(*item)),
-            Call::Callable => type_outcome(self.callable()),
-            Call::TypeOfTypes => type_outcome(self.type_of_types()),
-            Call::List(item) => type_outcome(self.list(*item)),
-            Call::Tuple(elements) => type_outcome(self.tuple(elements)),
-            Call::TupleOf(item) => type_outcome(self.tuple_of(*item)),
-            Call::Dict(key, value) => type_outcome(self.dict(*key, *value)),
-            Call::Custom(number) => type_outcome(self.custom(*number)),
-            Call::Set(item) => type_outcome(self.set(*item)),
-            Call::Union2(a, b) => type_outcome(self.union2(*a, *b)),
-            Call::AllocTy(ty) => annotation_outcome(self.alloc_ty(TypeCompiledFactory::new(*ty))),
-            Call::Check(a, v) => check_outcome(self.check(*a, *v)),
+            Call::StarlarkValue(number) => self.starlark_value(*number).map(Granted::Ty),
+            Call::Iter(item) => self.iter(*item).map(Granted::Ty),
+            Call::Callable => self.callable().map(Granted::Ty),
+            Call::TypeOfTypes => self.type_of_types().map(Granted::Ty),
+            Call::List(item) => self.list(*item).map(Granted::Ty),
+            Call::Tuple(elements) => self.tuple(elements).map(Granted::Ty),
+            Call::TupleOf(item) => self.tuple_of(*item).map(Granted::Ty),
+            Call::Dict { key, value } => self.dict(*key, *value).map(Granted::Ty),
+            Call::Custom(number) => self.custom(*number).map(Granted::Ty),
+            Call::Set(item) => self.set(*item).map(Granted::Ty),
+            Call::Union2(a, b) => self.union2(*a, *b).map(Granted::Ty),
+            Call::AllocTy(ty) => self
+                .alloc_ty(TypeCompiledFactory::new(*ty))
+                .map(Granted::Compiled),
+            Call::Check(a, v) => self.check(*a, *v).map(Granted::Says),
         }
     }
 
@@ -46,7 +51,7 @@ impl<H: Heap, S: TypeMatcherAlloc, C: TyCustom> WorkingSet<H, S, C> {
         calls: &[Call],
         outcomes: &mut Vec<Outcome>,
     ) -> Result<(), OutcomesFull>
-        ensures { Performed H.Heap.cells S.TypeMatcherAlloc.nodes S.TypeMatcherAlloc.limit S.TypeMatcherAlloc.sharing C.TyCustom.custom calls.now self.old self.new (places outcomes.old.items (vec_capacity outcomes.old)) (places outcomes.new.items (vec_capacity outcomes.new)) result }
+        ensures { Performed H.Heap S.TypeMatcherAlloc C.TyCustom calls.now self.old self.new (places outcomes.old.items (vec_capacity outcomes.old)) (places outcomes.new.items (vec_capacity outcomes.new)) result }
     {
         if outcomes.capacity() - outcomes.len() < calls.len() {
             return Err(OutcomesFull);

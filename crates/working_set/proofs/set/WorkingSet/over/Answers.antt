@@ -10,5 +10,5 @@ returns-in_err-annotations g c = let p = err_from_is_err_and c.from_residual-in_
 
 pub returns : goal.returns
 returns g c =
-    begun g.H.Heap.cells g.S.TypeMatcherAlloc.nodes g.S.TypeMatcherAlloc.limit c.args.below c.args.store c.args.customs c.in_ok-live.live c.in_ok-types.types c.in_ok-annotations.annotations
+    begun g.H.Heap g.S.TypeMatcherAlloc c.args.below c.args.store c.args.customs c.in_ok-live.live c.in_ok-types.types c.in_ok-annotations.annotations
     (g.met.H.Heap.closed c.args.below) c.in_ok-live.ensures.0 c.in_ok-live.ensures.1 c.in_ok-types.ensures c.in_ok-annotations.ensures

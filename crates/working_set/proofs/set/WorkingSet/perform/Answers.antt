@@ -9,39 +9,28 @@ loop-call-init g c = (
   omega arith,
   omega (arith, c.if-capacity-len.false, c.len.ensures, c.capacity.ensures, c.args.outcomes.now.ok.1),
   refl,
-  going_none g.H.Heap.cells g.S.TypeMatcherAlloc.nodes g.S.TypeMatcherAlloc.limit g.S.TypeMatcherAlloc.sharing g.C.TyCustom.custom c.args.self.now (vec_items c.args.outcomes.now),
+  going_none g.H.Heap g.S.TypeMatcherAlloc g.C.TyCustom c.args.self.now (vec_items c.args.outcomes.now),
 )
 
 pub loop-call-preserved : goal.loop-call-preserved
 loop-call-preserved g c =
     let inv = c.loop-call.invariant in
-    let cells = g.H.Heap.cells in
-    let nodes = g.S.TypeMatcherAlloc.nodes in
-    let limit = g.S.TypeMatcherAlloc.limit in
-    let shares = g.S.TypeMatcherAlloc.sharing in
-    let custom = g.C.TyCustom.custom in
     let i = c.loop-call.call-index in
     let call = c.call-item.result in
     let within : i < length c.args.calls.now = c.loop-call-test.true in
-    let next = going_more cells nodes limit shares custom (take i c.args.calls.now) c.args.self.now c.loop-call.self c.make-outcome.new.self (vec_items c.args.outcomes.now) (vec_items c.loop-call.outcomes) (vec_items c.push_reserved.new.self) call c.make-outcome.result inv.4 c.make-outcome.ensures c.push_reserved.ensures.items in
+    let next = going_more g.H.Heap g.S.TypeMatcherAlloc g.C.TyCustom (take i c.args.calls.now) c.args.self.now c.loop-call.self c.make-outcome.new.self (vec_items c.args.outcomes.now) (vec_items c.loop-call.outcomes) (vec_items c.push_reserved.new.self) call c.make-outcome.result inv.4 c.make-outcome.ensures c.push_reserved.ensures.items in
     let calls : take i c.args.calls.now ++ (call ∷ []) ≡ take (i + 1) c.args.calls.now =
     sym (take_more c.args.calls.now i call within ∙ ap (λ y. take i c.args.calls.now ++ (y ∷ [])) (sym c.call-item.is)) in (
       omega arith,
       omega (arith, c.push_reserved.ensures.len, inv.1),
       inv.2,
       c.push_reserved.ensures.capacity ∙ inv.3,
-      subst (λ cs. Going cells nodes limit shares custom cs c.args.self.now c.make-outcome.new.self (vec_items c.args.outcomes.now) (vec_items c.push_reserved.new.self)) calls next,
+      rw calls at next,
     )
 
 pub returns : goal.returns
 returns g c =
     let inv = c.loop-call.invariant in
-    let cells = g.H.Heap.cells in
-    let nodes = g.S.TypeMatcherAlloc.nodes in
-    let limit = g.S.TypeMatcherAlloc.limit in
-    let shares = g.S.TypeMatcherAlloc.sharing in
-    let custom = g.C.TyCustom.custom in
     let whole : take c.loop-call.call-index c.args.calls.now ≡ c.args.calls.now = take_all _ c.args.calls.now c.loop-call-test.false in
-    let going = subst (λ cs. Going cells nodes limit shares custom cs c.args.self.now c.loop-call.self (vec_items c.args.outcomes.now) (vec_items c.loop-call.outcomes)) whole inv.4 in
-    made_all cells nodes limit shares custom c.args.calls.now c.args.self.now c.loop-call.self (vec_items c.args.outcomes.now) (vec_items c.loop-call.outcomes) (vec_capacity c.args.outcomes.now) (vec_capacity c.loop-call.outcomes)
-    (g.met.C.TyCustom.open c.args.self.now.customs) (omega (arith, inv.2, c.args.outcomes.now.ok.0)) inv.3 going
+    made_all g.H.Heap g.S.TypeMatcherAlloc g.C.TyCustom c.args.calls.now c.args.self.now c.loop-call.self (vec_items c.args.outcomes.now) (vec_items c.loop-call.outcomes) (vec_capacity c.args.outcomes.now) (vec_capacity c.loop-call.outcomes)
+    (g.met.C.TyCustom.open c.args.self.now.customs) (omega (arith, inv.2, c.args.outcomes.now.ok.0)) inv.3 (rw whole at inv.4)

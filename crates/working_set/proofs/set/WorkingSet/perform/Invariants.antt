@@ -8,4 +8,4 @@ invariant-loop-call g l =
     × (vec_len l.outcomes ≡ vec_len l.initial.outcomes + l.call-index)
     × (vec_len l.initial.outcomes + length l.calls ≤ vec_capacity l.initial.outcomes)
     × (vec_capacity l.outcomes ≡ vec_capacity l.initial.outcomes)
-    × Going g.H.Heap.cells g.S.TypeMatcherAlloc.nodes g.S.TypeMatcherAlloc.limit g.S.TypeMatcherAlloc.sharing g.C.TyCustom.custom (take l.call-index l.calls) l.initial.self l.self (vec_items l.initial.outcomes) (vec_items l.outcomes)
+    × Going g.H.Heap g.S.TypeMatcherAlloc g.C.TyCustom (take l.call-index l.calls) l.initial.self l.self (vec_items l.initial.outcomes) (vec_items l.outcomes)
