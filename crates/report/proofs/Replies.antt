@@ -71,8 +71,8 @@ module _ (c : Custom) (shares : Bool) (s : State) where
 
   pub replies : (steps : List Step) (qs : List Query) → Run c shares s steps → map (λ (x : Step). x.call) steps ≡ map asks qs → map (λ (x : Step). x.outcome) steps ≡ map reply qs
   replies [] [] r e = refl
-  replies [] (q ∷ qs) r e = let z : ◌≡◌ {A = ℕ} 0 1 = cc in absurd (omega arith)
-  replies (x ∷ xs) [] r e = let z : ◌≡◌ {A = ℕ} 0 1 = cc in absurd (omega arith)
+  replies [] (q ∷ qs) r e = cc
+  replies (x ∷ xs) [] r e = cc
   replies (x ∷ xs) (q ∷ qs) r e =
       let first : x.call ≡ asks q = cc in
       let rest : map (λ (y : Step). y.call) xs ≡ map asks qs = cc in

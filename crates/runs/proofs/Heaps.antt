@@ -1,7 +1,7 @@
 -- What the calls on a live heap keep. Assumes nothing.
 use Rattle.std.proofs.Common.{◌≡◌, ℕ, zero, suc, ◌+◌, ◌<◌, ◌≤◌, Bool, true, false, cond, ◌&&◌, eqb, ltb, ◌≢◌, ◌⊎◌, List, [], ◌∷◌, ◌++◌, length, get_or, set, is_ok, Ok, Err, sym, refl, ap, ◌∙◌, subst, inl, inr, arith, length-append, length-set, get_or-set_other, get_or-set_same}
 use Rattle.std.proofs.lemmas.List.{get_or_append_left, get_or_push}
-use Rattle.std.proofs.lemmas.Bool.{and_parts, ltb-true, ltb-false, eqb-true, eqb-false}
+use Rattle.std.proofs.lemmas.Bool.{and_parts, cases_eq, ltb-true, ltb-false}
 use Rattle.values.specs.Cells.{Cell, cell_at, no_cell, Closed, each, well_formed}
 use Rattle.values.specs.Lives.{Live, has_room_lem, new_leaves, added, changed, settable, put_leaves, put, frozen_all}
 use Rattle.values.specs.Values.{value}
@@ -36,13 +36,6 @@ goes_here h f = record { firm = f; later = later_here h }
 
 split : (a b : ℕ) → a < suc b → (a < b) ⊎ (a ≡ b)
 split a b h = grind arith
-
-same : (a b : ℕ) → (a ≡ b) ⊎ (a ≢ b)
-same a b = go (eqb a b) refl
-  where
-    go : (t : Bool) → eqb a b ≡ t → (a ≡ b) ⊎ (a ≢ b)
-    go true e = inl (eqb-true a b e)
-    go false e = inr (eqb-false a b e)
 
 -- every part is below n
 abbrev Parts : ℕ → List ℕ → Type 0
@@ -96,7 +89,7 @@ module _ (h : Live) (firm : Firm h) where
   goes_put' : (v i x : ℕ) → v < length h.cells → h.frozen ≤ v → x < length h.cells → Goes h (put h v i x)
   goes_put' v j x in' free standing = record {
     firm = record {
-      closed = λ w i l m. go w i (same w v) (omega (arith, long)) m;
+      closed = λ w i l m. go w i (cases_eq w v) (omega (arith, long)) m;
       within = omega (arith, long, firm.within);
       fixed = λ w i l m.
           let ne : w ≢ v = omega arith in
@@ -120,7 +113,7 @@ module _ (h : Live) (firm : Firm h) where
       go w i (inl e) l m =
           let new : cell_at (put h v j x).cells w ≡ changed (cell_at h.cells v) j x = ap (λ k. cell_at (put h v j x).cells k) e ∙ get_or-set_same h.cells v (changed (cell_at h.cells v) j x) no_cell in' in
           let m' : i < length (cell_at h.cells v).parts = omega (arith, subst (λ (y : Cell). i < length y.parts) new m, length-set (cell_at h.cells v).parts j x) in
-          let p : get_or (set (cell_at h.cells v).parts j x) i 0 < length h.cells = set_below i m' (same i j) in
+          let p : get_or (set (cell_at h.cells v).parts j x) i 0 < length h.cells = set_below i m' (cases_eq i j) in
           rw new (omega (arith, long, p))
       go w i (inr ne) l m =
           let o : cell_at (put h v j x).cells w ≡ cell_at h.cells w = get_or-set_other h.cells v w (changed (cell_at h.cells v) j x) no_cell ne in

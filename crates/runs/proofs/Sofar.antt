@@ -1,5 +1,6 @@
 -- A run as far as it has come. Assumes nothing.
 use Rattle.std.proofs.Common.{◌≡◌, Bool, List, [], ◌∷◌, ◌++◌, map, sym, refl, ap, ◌∙◌, subst}
+use Rattle.std.proofs.lemmas.List.{map-append}
 use Rattle.custom.specs.Customs.{Custom, Open}
 use Rattle.runs.specs.Acts.{Act, Answer}
 use Rattle.runs.specs.States.{State, OutcomeOf}
@@ -14,10 +15,6 @@ pub record Sofar (c : Custom) (shares : Bool) (s : State) (calls : List Act) (an
   pub answered : map (λ x. x.outcome) steps ≡ answers
   pub run : Run c shares s steps
   pub ends : end s steps ≡ t
-
-map_more : {A B : Type 0} (f : A → B) (xs : List A) (x : A) → map f (xs ++ (x ∷ [])) ≡ map f xs ++ (f x ∷ [])
-map_more f [] x = refl
-map_more f (y ∷ xs) x = ap (λ w. f y ∷ w) (map_more f xs x)
 
 module _ (c : Custom) (shares : Bool) where
   pub run_append : (s : State) (xs ys : List Step) → Run c shares s xs → Run c shares (end s xs) ys → Run c shares s (xs ++ ys)
@@ -50,8 +47,8 @@ module _ (c : Custom) (shares : Bool) where
       let x : Step = record { call = a; outcome = o; after = u } in
       record {
         steps = p.steps ++ (x ∷ []);
-        called = map_more (λ (y : Step). y.call) p.steps x ∙ ap (λ w. w ++ (a ∷ [])) p.called;
-        answered = map_more (λ (y : Step). y.outcome) p.steps x ∙ ap (λ w. w ++ (o ∷ [])) p.answered;
+        called = map-append (λ (y : Step). y.call) p.steps (x ∷ []) ∙ ap (λ w. w ++ (a ∷ [])) p.called;
+        answered = map-append (λ (y : Step). y.outcome) p.steps (x ∷ []) ∙ ap (λ w. w ++ (o ∷ [])) p.answered;
         run = run_append s p.steps (x ∷ []) p.run (subst (λ w. OutcomeOf c shares w a o u) (sym p.ends) b, tt);
         ends = end_append s p.steps (x ∷ []);
       }

@@ -29,7 +29,7 @@ module _ (rows : List Row) (s : Sound rows) where
           let j = judged_granted (intern rows (x ∷ [])) g e in
           let f : Fine rows (intern rows (x ∷ [])) = intern_fine {form = formed} rows (x ∷ []) (kept_of rows s) (and_from (all_below_lem (length rows) (parts x)) true l refl) (alone_formed x p) in
           subst (λ (h : Grown). Grows rows h.rows) j.0 (grows_fine rows (intern rows (x ∷ [])) f j.1)
-      go false l e = let z : ◌≡◌ {A = ℕ} 0 1 = cc in absurd (omega arith)
+      go false l e = cc
 
   pub made_grows : (x : Alt) → Grows rows (rows_after rows (made rows x))
   made_grows x = go (plainly x) refl

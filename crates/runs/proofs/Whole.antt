@@ -1,6 +1,6 @@
 -- The law by places, of every run from a blank set. Assumes nothing.
 use Rattle.std.proofs.Common.{◌≡◌, ℕ, zero, suc, ◌+◌, ◌<◌, ◌≤◌, Bool, true, false, cond, ◌&&◌, ◌||◌, ltb, ◌⊎◌, List, [], ◌∷◌, length, sym, refl, ap, ◌∙◌, subst, ap₂, inl, inr, ⊎_elim, arith}
-use Rattle.std.proofs.lemmas.Bool.{and_from, lt-ltb}
+use Rattle.std.proofs.lemmas.Bool.{and_from, lt-ltb, false_from_ne_true, or_cases}
 use Rattle.custom.specs.Customs.{Custom, Open}
 use Rattle.custom.specs.Worlds.{World}
 use Rattle.membership.specs.Rows.{Row, Grown, granted, refused, Outcome, union2, Keeps, Sound, merges, any_of, is_list, is_dict}
@@ -36,14 +36,10 @@ module _ (c : Custom) (shares : Bool) (opens : Open c) where
   said : (s : State) (a v : ℕ) (b : Bool) → check_says c shares s a v ≡ says b → SaysOf c shares s a v b
   said s a v b e = record { is = record { answered = sym e; leaves = refl }; only = λ o t p. (p.answered ∙ e, p.leaves) }
 
-  not_true : (b : Bool) → (b ≡ true → ⊥) → b ≡ false
-  not_true true h = absurd (h refl)
-  not_true false h = refl
-
   checks_hold : (s : State) → Good c s → (a v : ℕ) → a < length s.annotations → v < length s.heap.cells → Checks c shares s a v
   checks_hold s g a v l m = record {
     yes_to_members = λ h. said s a v true (check_is s g a v l m ∙ ap says h);
-    no_to_others = λ h. said s a v false (check_is s g a v l m ∙ ap says (not_true _ h));
+    no_to_others = λ h. said s a v false (check_is s g a v l m ∙ ap says (false_from_ne_true _ h));
   }
 
   -- a frozen value's types stay the same
@@ -92,7 +88,7 @@ module _ (c : Custom) (shares : Bool) (opens : Open c) where
       }
 
   fit_new : (rows : List Row) → Sound rows → (t u n : ℕ) (o : Outcome) → union2 rows t u ≡ o → type_answer o ≡ type_is n → Fit (rows_after rows o) t u n
-  fit_new rows s t u n (refused k) e a = let z : ◌≡◌ {A = ℕ} 0 1 = cc in absurd (omega arith)
+  fit_new rows s t u n (refused k) e a = cc
   fit_new rows s t u n (granted g) e a = let q : g.number ≡ n = cc in subst (λ k. Fit g.rows t u k) q (fit_granted rows s t u g e)
 
   fit_more : (rows rows' : List Row) → Sound rows → Keeps rows rows' → (t u n : ℕ) → Fit rows t u n → Fit rows' t u n
@@ -108,14 +104,10 @@ module _ (c : Custom) (shares : Bool) (opens : Open c) where
         no_other = λ q w v h. ap₂ ◌||◌ (same w t v f.left_in) (same w u v f.right_in) ∙ f.no_other (sym (merges_kept rows rows' t u k f.left_in f.right_in) ∙ q) w v (sym (same w n v f.whole_in) ∙ h);
       }
 
-  or_either : (a b : Bool) → (a || b) ≡ true → (a ≡ true) ⊎ (b ≡ true)
-  or_either true b e = inl refl
-  or_either false b e = inr e
-
   fit_joins : (s : State) (t u n : ℕ) → Fit s.rows t u n → Joins c shares s t u n
   fit_joins s t u n f = record {
     either = λ v. ⊎_elim (f.from_left (world_of c shares s) v) (f.from_right (world_of c shares s) v);
-    no_other = λ q v h. or_either (member s.rows (world_of c shares s) t v) (member s.rows (world_of c shares s) u v) (f.no_other q (world_of c shares s) v h);
+    no_other = λ q v h. or_cases (member s.rows (world_of c shares s) t v) (member s.rows (world_of c shares s) u v) (f.no_other q (world_of c shares s) v h);
   }
 
   -- the places of a run

@@ -14,11 +14,11 @@ told_by : (a b d x : Bool) → a ≡ true → check_told (cond b (cond d (Ok x) 
 told_by true true true x e = refl
 told_by true true false x e = refl
 told_by true false d x e = refl
-told_by false b d x e = let z : ◌≡◌ {A = ℕ} 0 1 = cc in absurd (omega arith)
+told_by false b d x e = cc
 
 found : (b : Bool) (n m : ℕ) → ◌≡◌ {A = Result ℕ Refusal} (Ok n) (cond b (Ok m) (Err NoNode)) → (b ≡ true) × (n ≡ m)
 found true n m e = (refl, cc)
-found false n m e = let z : ◌≡◌ {A = ℕ} 0 1 = cc in absurd (omega arith)
+found false n m e = cc
 
 pub check_answers : (c : Custom) (shares : Bool) (s : State) (a v root : ℕ) (r : Result Bool Refusal)
     → Ok root ≡ annotation_says s.annotations a (λ x. x.root) → r ≡ verdict (world s.heap.cells c) s.nodes root v → check_told r ≡ check_says c shares s a v
