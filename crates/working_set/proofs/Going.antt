@@ -33,9 +33,9 @@ module _ {H S C : Type 0} (h : Heap H) (s : TypeMatcherAlloc S) (c : TyCustom C)
   going_none w before = record { outcomes = []; written = sym (append-nil before); sofar = sofar_none (c.custom w.customs) s.sharing (held w); customs = refl; below = refl }
 
   -- and of those calls, one more
-  pub going_more : {w w' w'' : WorkingSet H S C} {before after after' : Outcomes} {o : Result Granted Refusal} (calls : List Call) (i : ℕ) (x : Call) → i < length calls → x ≡ get_or calls i x
+  pub going_more : {w w' w'' : WorkingSet H S C} {before after after' : Outcomes} (calls : List Call) (i : ℕ) (x : Call) (o : Result Granted Refusal) → i < length calls → x ≡ get_or calls i x
       → Going (take i calls) w w' before after → Effect h s c w' (act x) (told o) w'' → after' ≡ after ++ (o ∷ []) → Going (take (i + 1) calls) w w'' before after'
-  going_more {w} {w'} {w''} {before} {o = o} calls i x within is g e written =
+  going_more {w} {w'} {w''} {before} calls i x o within is g e written =
       let k = c.custom w.customs in
       let more : take (i + 1) calls ≡ take i calls ++ (x ∷ []) = take_more calls i x within ∙ ap (λ y. take i calls ++ (y ∷ [])) (sym is) in
       let step : OutcomeOf k s.sharing (held w') (act x) (told o) (held w'') = subst (λ (y : C). OutcomeOf (c.custom y) s.sharing (held w') (act x) (told o) (held w'')) g.customs e.outcome in

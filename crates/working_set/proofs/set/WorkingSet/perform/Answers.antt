@@ -1,4 +1,4 @@
-use Rattle.std.proofs.Common.{vec_items, vec_capacity, refl, ◌∙◌, arith}
+use Rattle.std.proofs.Common.{vec_items, vec_capacity, refl, arith}
 use Rattle.working_set.proofs.Going.{going_none, going_more, made_all}
 use Rattle.working_set.proofs.set.WorkingSet.perform.Goals as goal
 
@@ -17,8 +17,8 @@ loop-call-preserved g c =
       omega arith,
       omega (arith, c.push_reserved.ensures.len, inv.1),
       inv.2,
-      c.push_reserved.ensures.capacity ∙ inv.3,
-      going_more g.H.Heap g.S.TypeMatcherAlloc g.C.TyCustom c.args.calls.now c.loop-call.call-index c.call-item.result c.loop-call-test.true c.call-item.is inv.4 c.make-outcome.ensures c.push_reserved.ensures.items,
+      omega (arith, c.push_reserved.ensures.capacity, inv.3),
+      going_more g.H.Heap g.S.TypeMatcherAlloc g.C.TyCustom c.args.calls.now c.loop-call.call-index c.call-item.result c.make-outcome.result c.loop-call-test.true c.call-item.is inv.4 c.make-outcome.ensures c.push_reserved.ensures.items,
     )
 
 pub returns : goal.returns
