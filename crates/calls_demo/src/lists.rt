@@ -1,8 +1,14 @@
 // Lists of calls.
 use std::alloc::{AllocError, Global};
 use type_compiled::annotations::TypeCompiled;
+use values::head::Head;
 use values::value::Value;
 use working_set::calls::Call;
+
+// A type number, flags and a mark.
+pub(crate) fn head(ty: u16, flags: u8, mark: i64) -> Head {
+    Head { ty, flags, mark }
+}
 
 // int is 2, str 3, list[int] 4, list[str] 5, int | str 6, list[int | str] 7.
 pub(crate) fn make_types(heap: Global) -> Result<Vec<Call>, AllocError> {
@@ -25,13 +31,13 @@ pub(crate) fn make_types(heap: Global) -> Result<Vec<Call>, AllocError> {
 // An int 2, a str 3, the lists [2] 4 and [2, 3] 5.
 pub(crate) fn make_cells(heap: Global) -> Result<Vec<Call>, AllocError> {
     Ok(vec![in heap;
-        Call::New(1, 0, -3, Vec::new(heap)),
-        Call::New(4, 0, 0, Vec::new(heap)),
-        Call::New(5, 2, 0, vec![in heap; Value(2)]?),
-        Call::New(5, 2, 0, vec![in heap; Value(2), Value(3)]?),
-        Call::New(5, 2, 0, vec![in heap; Value(6)]?),
-        Call::New(6, 2, 0, vec![in heap; Value(2)]?),
-        Call::New(9, 0, 0, Vec::new(heap)),
+        Call::New(head(1, 0, -3), Vec::new(heap)),
+        Call::New(head(4, 0, 0), Vec::new(heap)),
+        Call::New(head(5, 2, 0), vec![in heap; Value(2)]?),
+        Call::New(head(5, 2, 0), vec![in heap; Value(2), Value(3)]?),
+        Call::New(head(5, 2, 0), vec![in heap; Value(6)]?),
+        Call::New(head(6, 2, 0), vec![in heap; Value(2)]?),
+        Call::New(head(9, 0, 0), Vec::new(heap)),
         Call::Check(TypeCompiled(0), Value(4)),
         Call::Check(TypeCompiled(0), Value(5)),
         Call::Check(TypeCompiled(1), Value(5)),
@@ -61,7 +67,7 @@ pub(crate) fn check_cells(heap: Global) -> Result<Vec<Call>, AllocError> {
             place: 1,
             part: Value(2)
         },
-        Call::New(8, 2, 0, vec![in heap; Value(2), Value(4)]?),
+        Call::New(head(8, 2, 0), vec![in heap; Value(2), Value(4)]?),
         Call::Put {
             value: Value(6),
             place: 0,
@@ -74,7 +80,7 @@ pub(crate) fn check_cells(heap: Global) -> Result<Vec<Call>, AllocError> {
             part: Value(2)
         },
         Call::Check(TypeCompiled(0), Value(4)),
-        Call::New(5, 2, 0, vec![in heap; Value(2)]?),
+        Call::New(head(5, 2, 0), vec![in heap; Value(2)]?),
         Call::Check(TypeCompiled(0), Value(7)),
         Call::Put {
             value: Value(7),
@@ -104,8 +110,8 @@ pub(crate) fn check_customs(heap: Global) -> Result<Vec<Call>, AllocError> {
         Call::TupleOf(2),
         Call::Union2(2, 12),
         Call::AllocTy(18),
-        Call::New(16, 0, 5, Vec::new(heap)),
-        Call::New(16, 0, 6, Vec::new(heap)),
+        Call::New(head(16, 0, 5), Vec::new(heap)),
+        Call::New(head(16, 0, 6), Vec::new(heap)),
         Call::Check(TypeCompiled(4), Value(8)),
         Call::Check(TypeCompiled(4), Value(9)),
         Call::Check(TypeCompiled(4), Value(2)),

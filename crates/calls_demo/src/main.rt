@@ -4,7 +4,7 @@ mod lists;
 
 use custom::entries::Mark;
 use custom::marks::Marks;
-use lists::{check_cells, check_customs, make_cells, make_types, make_wide_types};
+use lists::{check_cells, check_customs, head, make_cells, make_types, make_wide_types};
 use matcher::alloc::TypeMatcherAlloc;
 use matcher::stores::SharingStore;
 use values::empty::EmptyHeap;
@@ -23,7 +23,7 @@ fn show(rt: HostRuntime, outcomes: &[Outcome]) -> anyhow::Result<()> {
     for (i, outcome) in outcomes.iter().enumerate() {
         match outcome {
             Ok(granted) => println!(rt; "{i} {granted}")?,
-            Err(why) => println!(rt; "{i} refused {}", why.code())?,
+            Err(why) => println!(rt; "{i} refused {why}")?,
         }
     }
     Ok(())
@@ -33,8 +33,8 @@ fn show(rt: HostRuntime, outcomes: &[Outcome]) -> anyhow::Result<()> {
 fn main(rt: HostRuntime) -> anyhow::Result<()> {
     let heap = rt.alloc();
     let mut below = LiveHeap::over(heap, EmptyHeap)?;
-    let _ = below.new(1, 0, 7, &[]);
-    let _ = below.new(5, 2, 0, &[Value(0)]);
+    let _ = below.new(head(1, 0, 7), &[]);
+    let _ = below.new(head(5, 2, 0), &[Value(0)]);
     let store = SharingStore::new(heap, PLACES)?;
     let Ok(customs) = Marks::new(vec![in heap; Mark { ty: 16, mark: 5 }]?) else {
         return Ok(());

@@ -13,7 +13,7 @@ use Rattle.working_set.specs.declared.outcomes.Granted.TheVariants.{Value, Done,
 
 -- what each call asks
 abbrev pub act : Call → Act
-act (New t f m ps) = new_cell (cell t f m (numbers (vec_items ps)))
+act (New head ps) = new_cell (cell head.ty head.flags head.mark (numbers (vec_items ps)))
 act (Put v i x) = put_part v.0 i x.0
 act Freeze = freeze_all
 act (StarlarkValue n) = make_type (plain n)

@@ -1,11 +1,12 @@
 use type_compiled::annotations::TypeCompiled;
+use values::head::Head;
 use values::value::Value;
 
 // A call on a working set. Types are named by their numbers.
 #[derive(Drop)]
 pub enum Call {
-    // A new cell: type number, flags, mark and parts.
-    New(u16, u8, i64, Vec<Value>),
+    // A new cell: its head and its parts.
+    New(Head, Vec<Value>),
     // Sets the part of a value at a place.
     Put {
         value: Value,

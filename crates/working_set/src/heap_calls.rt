@@ -13,10 +13,10 @@ use values::value::Value;
 
 impl<H: Heap, S: TypeMatcherAlloc, C: TyCustom> WorkingSet<H, S, C> {
     // A new cell, whose parts already stand.
-    pub fn new(&mut self, ty: u16, flags: u8, mark: i64, parts: &[Value]) -> Result<Value, Refusal>
-        ensures { Effect H.Heap S.TypeMatcherAlloc C.TyCustom self.old (new_cell (cell ty flags mark (numbers parts.now))) (value_told result) self.new }
+    pub fn new(&mut self, head: Head, parts: &[Value]) -> Result<Value, Refusal>
+        ensures { Effect H.Heap S.TypeMatcherAlloc C.TyCustom self.old (new_cell (cell head.ty head.flags head.mark (numbers parts.now))) (value_told result) self.new }
     {
-        self.live.new(Head { ty, flags, mark }, parts)
+        self.live.new(head, parts)
     }
 
     // Sets an item of a list or a value of a dict.

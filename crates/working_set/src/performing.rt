@@ -17,9 +17,7 @@ impl<H: Heap, S: TypeMatcherAlloc, C: TyCustom> WorkingSet<H, S, C> {
         ensures { Effect H.Heap S.TypeMatcherAlloc C.TyCustom self.old (act call.now) (told result) self.new }
     {
         match call {
-            Call::New(ty, flags, mark, parts) => self
-                .new(*ty, *flags, *mark, parts)
-                .map(Granted::Value),
+            Call::New(head, parts) => self.new(*head, parts).map(Granted::Value),
             Call::Put { value, place, part } => {
                 self.put(*value, *place, *part).map(|()| Granted::Done)
             }

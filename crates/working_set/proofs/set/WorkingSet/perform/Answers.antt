@@ -18,7 +18,7 @@ loop-call-preserved g c =
       omega (arith, c.push_reserved.ensures.len, inv.1),
       inv.2,
       omega (arith, c.push_reserved.ensures.capacity, inv.3),
-      going_more g.H.Heap g.S.TypeMatcherAlloc g.C.TyCustom c.args.calls.now c.loop-call.call-index c.call-item.result c.make-outcome.result c.loop-call-test.true c.call-item.is inv.4 c.make-outcome.ensures c.push_reserved.ensures.items,
+      going_more g.H.Heap g.S.TypeMatcherAlloc g.C.TyCustom {after' = vec_items c.push_reserved.new.self} c.args.calls.now c.loop-call.call-index c.call-item.result c.make-outcome.result c.loop-call-test.true c.call-item.is inv.4 c.make-outcome.ensures c.push_reserved.ensures.items,
     )
 
 pub returns : goal.returns
