@@ -1,8 +1,7 @@
 -- A refused call leaves the set as it was. Assumes nothing.
-use Rattle.std.proofs.Common.{◌≡◌, ℕ, Bool, cond, is_ok, Ok, Err, Result, refl, arith}
+use Rattle.std.proofs.Common.{◌≡◌, ℕ, Bool, cond, is_ok, Ok, Err, Result, refl}
 use Rattle.values.specs.Lives.{Live, new_says, put_says}
 use Rattle.values.specs.declared.refusal.Refusal.{Refusal}
-use Rattle.values.specs.declared.value.Value.{Value}
 use Rattle.custom.specs.Customs.{Custom}
 use Rattle.membership.specs.Rows.{Outcome as RowsOutcome, granted, refused as turned_down, union2}
 use Rattle.compiling.specs.Outcomes.{Outcome as CompileOutcome, granted as entered_as, refused as not_entered}

@@ -32,7 +32,7 @@ module _ {H S C : Type 0} (h : Heap H) (s : TypeMatcherAlloc S) (c : TyCustom C)
   pub going_none : (w : WorkingSet H S C) (before : Outcomes) → Going [] w w before before
   going_none w before = record { outcomes = []; written = sym (append-nil before); sofar = sofar_none (c.custom w.customs) s.sharing (held w); customs = refl; below = refl }
 
-  -- and of those calls, one more
+  -- one more of the calls
   pub going_more : {w w' w'' : WorkingSet H S C} {before after after' : Outcomes} (calls : List Call) (i : ℕ) (x : Call) (o : Result Granted Refusal) → i < length calls → x ≡ get_or calls i x
       → Going (take i calls) w w' before after → Effect h s c w' (act x) (told o) w'' → after' ≡ after ++ (o ∷ []) → Going (take (i + 1) calls) w w'' before after'
   going_more {w} {w'} {w''} {before} calls i x o within is g e written =
