@@ -1,7 +1,12 @@
--- The bytes of a job, by which contracts speak of it. Assumes nothing.
-use Rattle.std.specs.Prelude.{ℕ, List, vec_items}
+-- The bytes of a job and its cells, by which contracts speak of them. Assumes nothing.
+use Rattle.std.specs.Prelude.{ℕ, cond, List, map, Option, Some, None, nat_lt, slice_index, vec_items}
+use Rattle.values.specs.Cells.{Cell, well_formed, each}
+use Rattle.values.specs.declared.refusal.Refusal.{Refusal}
+use Rattle.values.specs.declared.refusal.Refusal.TheVariants.{NoValue, BadForm}
+use Rattle.job_format.specs.Frames.{wide}
 use Rattle.job.specs.declared.raw.RawJob.{RawJob}
 use Rattle.job.specs.declared.verified.Job.{Job}
+use Rattle.job.specs.declared.cell_body.CellBody.{CellBody}
 
 abbrev pub raw_bytes : RawJob → List ℕ
 raw_bytes j = vec_items j.bytes
@@ -9,3 +14,14 @@ raw_bytes j = vec_items j.bytes
 -- with the definitions of the format: jobCells (jobBytes j), jobTexts (jobBytes j) and so on
 abbrev pub job_bytes : Job → List ℕ
 job_bytes j = vec_items j.bytes
+
+-- a number that is written in two bytes
+abbrev pub wide_of : List ℕ → ℕ
+wide_of b = wide (slice_index b 0) (slice_index b 1)
+
+abbrev pub cell_held : CellBody → Cell
+cell_held c = record { ty = c.ty; flags = c.flags; mark = c.mark; parts = map wide_of c.parts.now }
+
+-- why a cell is turned down, where there are n cells
+abbrev pub fault_of : ℕ → Cell → Option Refusal
+fault_of n c = cond (each (λ p. nat_lt p n) c.parts) (cond (well_formed c) None (Some BadForm)) (Some NoValue)

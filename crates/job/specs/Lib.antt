@@ -1,3 +1,5 @@
 pub mod Judged
 pub mod Seens
 pub mod Held
+pub mod Walked
+pub mod Entered

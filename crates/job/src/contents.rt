@@ -1,10 +1,15 @@
-ghost use Rattle.std.specs.Prelude.{◌≡◌, ◌≤◌, length, IfOk, MatchOption};
+ghost use Rattle.std.specs.Prelude.{◌≡◌, ◌≤◌, length, map, IfOk, MatchOption};
 ghost use Rattle.custom.specs.Held.{marks_in, ranges_in};
-ghost use Rattle.job_format.specs.Contents.{job_marks, job_ranges, job_texts, job_queries, Stood, TextAt};
+ghost use Rattle.job_format.specs.Tags.{tag_number, text_tag};
+ghost use Rattle.job_format.specs.Frames.{records};
+ghost use Rattle.job_format.specs.Bodies.{bodies};
+ghost use Rattle.job_format.specs.Contents.{job_marks, job_ranges, job_texts, job_queries, query_in_lem, Stood, TextAt};
 ghost use Rattle.job.specs.Held.{job_bytes};
+ghost use Rattle.job.specs.Walked.{numbered};
+ghost use Rattle.job.specs.Entered.{texts_left, entries_left};
 
-use crate::bodies::{eight_at, two_at};
-use crate::limits::MOST_ENTRIES;
+use crate::entries::{Entries, Queries, Texts};
+use crate::from_body::FromBody;
 use crate::text::Text;
 use crate::verified::Job;
 use custom::entries::{Mark, Range};
@@ -13,31 +18,25 @@ use custom::ranges::Ranges;
 use job_format::query::Query;
 use job_format::tag::Tag;
 use std::alloc::{AllocError, Global};
+use std::marker::PhantomData;
 
 impl Job {
-    // The entry of the Marks with the number v.
-    fn mark_entry(&self, v: usize) -> Option<Mark>
-        ensures { MatchOption result (length (job_marks (job_bytes self.now)) ≤ v) (λ m. Stood (job_marks (job_bytes self.now)) v m) }
+    // What the records with one tag say, from the first on.
+    fn entries<T: FromBody>(&self) -> Entries<'_, T>
+        ensures { entries_left T.read result ≡ map T.read (bodies (tag_number T.TAG) (records (job_bytes self.now))) }
     {
-        match self.nth(Tag::Mark, v) {
-            Some(place) => Some(Mark {
-                ty: two_at(place.body, 0),
-                mark: eight_at(place.body, 2),
-            }),
-            None => None,
+        Entries {
+            tagged: self.tagged(T::TAG),
+            of: PhantomData,
         }
     }
 
-    // The entry of the Ranges with the number v.
-    fn range_entry(&self, v: usize) -> Option<Range>
-        ensures { MatchOption result (length (job_ranges (job_bytes self.now)) ≤ v) (λ m. Stood (job_ranges (job_bytes self.now)) v m) }
+    // All texts, from the first on.
+    pub fn texts_in_order(&self) -> Texts<'_>
+        ensures { texts_left result ≡ numbered text_tag 0 (records (job_bytes self.now)) }
     {
-        match self.nth(Tag::Range, v) {
-            Some(place) => Some(Range {
-                low: eight_at(place.body, 0),
-                high: eight_at(place.body, 8),
-            }),
-            None => None,
+        Texts {
+            tagged: self.tagged(Tag::Text),
         }
     }
 
@@ -45,75 +44,50 @@ impl Job {
     pub fn texts(&self) -> usize
         ensures { result ≡ length (job_texts (job_bytes self.now)) }
     {
-        self.count_of(Tag::Text)
+        self.texts_in_order().count()
     }
 
     // The text with the number v, and its record.
     pub fn text(&self, v: usize) -> Option<Text<'_>>
         ensures { MatchOption result (length (job_texts (job_bytes self.now)) ≤ v) (λ t. TextAt (job_bytes self.now) v t.record t.bytes.now) }
     {
-        match self.nth(Tag::Text, v) {
-            Some(place) => Some(Text {
-                record: place.record,
-                bytes: place.body,
-            }),
-            None => None,
-        }
+        self.texts_in_order().nth(v)
+    }
+
+    // All queries, from the first on.
+    pub fn queries_in_order(&self) -> Queries<'_>
+        ensures { entries_left query_in_lem result ≡ job_queries (job_bytes self.now) }
+    {
+        self.entries()
     }
 
     // How many queries there are.
     pub fn queries(&self) -> usize
         ensures { result ≡ length (job_queries (job_bytes self.now)) }
     {
-        self.count_of(Tag::Query)
+        self.queries_in_order().count()
     }
 
     // The query with the number v.
     pub fn query(&self, v: usize) -> Option<Query>
         ensures { MatchOption result (length (job_queries (job_bytes self.now)) ≤ v) (λ q. Stood (job_queries (job_bytes self.now)) v q) }
     {
-        match self.nth(Tag::Query, v) {
-            Some(place) => Some(Query {
-                annotation: two_at(place.body, 0),
-                value: two_at(place.body, 2),
-            }),
-            None => None,
-        }
+        self.queries_in_order().nth(v)
     }
 
     // The Marks of the job.
     pub fn marks(&self, heap: Global) -> Result<Marks, AllocError>
         ensures { IfOk result (λ m. marks_in m ≡ job_marks (job_bytes self.now)) }
     {
-        let mut entries = Vec::with_capacity(heap, MOST_ENTRIES)?;
-        let n = self.count_of(Tag::Mark);
-        for v in 0..n {
-            match self.mark_entry(v) {
-                Some(m) => entries.push_reserved(m),
-                None => unreachable(),
-            }
-        }
-        match Marks::new(entries) {
-            Ok(m) => Ok(m),
-            Err(_) => unreachable(),
-        }
+        let entries: Vec<Mark> = self.entries().collect(heap)?;
+        Ok(Marks::new(entries).unwrap())
     }
 
     // The Ranges of the job.
     pub fn ranges(&self, heap: Global) -> Result<Ranges, AllocError>
         ensures { IfOk result (λ m. ranges_in m ≡ job_ranges (job_bytes self.now)) }
     {
-        let mut entries = Vec::with_capacity(heap, MOST_ENTRIES)?;
-        let n = self.count_of(Tag::Range);
-        for v in 0..n {
-            match self.range_entry(v) {
-                Some(m) => entries.push_reserved(m),
-                None => unreachable(),
-            }
-        }
-        match Ranges::new(entries) {
-            Ok(m) => Ok(m),
-            Err(_) => unreachable(),
-        }
+        let entries: Vec<Range> = self.entries().collect(heap)?;
+        Ok(Ranges::new(entries).unwrap())
     }
 }

@@ -1,17 +1,19 @@
 // A job: raw bytes, tested once, then a heap, customs, texts and queries.
 #![tactic(auto)]
 
-mod asking;
 mod bodies;
+mod cell_body;
 mod contents;
+pub mod entries;
 pub mod fault;
 mod frames;
+pub mod from_body;
 pub mod job_heap;
 pub mod limits;
 pub mod opening;
-mod place;
-pub mod queries;
 pub mod raw;
+mod reading;
+mod records;
 mod seen;
 mod tally;
 mod testing;

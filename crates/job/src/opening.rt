@@ -19,12 +19,12 @@ pub fn opened(raw: RawJob) -> Result<Job, JobFault>
     Ok(raw.verified())
 }
 
-impl JobFault {
+impl From<JobFault> for Report {
+    ghost from_gives = { λ fault said. said ≡ fault_says fault };
+
     // What is written of the fault.
-    pub fn report(self) -> Report
-        ensures { result ≡ fault_says self }
-    {
-        match self {
+    fn from(fault: JobFault) -> Report {
+        match fault {
             JobFault::Frame(record) => Report {
                 record,
                 number: WRONG_FRAME,

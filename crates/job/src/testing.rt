@@ -1,69 +1,50 @@
-ghost use Rattle.std.specs.Prelude.{◌≡◌, ◌≤◌, length, MatchResult, ◌==◌};
+ghost use Rattle.std.specs.Prelude.{◌≡◌, ◌≤◌, length, MatchResult, Err};
 ghost use Rattle.job_format.specs.Limits.{most_bytes};
 ghost use Rattle.job_format.specs.Frames.{records};
-ghost use Rattle.job_format.specs.Order.{Framed, Misframed, cell_count};
+ghost use Rattle.job_format.specs.Order.{Framed, cell_count};
 ghost use Rattle.job.specs.Judged.{Judged, Accepts};
 ghost use Rattle.job.specs.Held.{raw_bytes};
 
-use crate::bodies::cell_fault;
+use crate::cell_body::CellBody;
 use crate::fault::JobFault;
-use crate::frames::split;
+use crate::frames::records;
 use crate::limits::MOST_BYTES;
 use crate::raw::RawJob;
-use crate::seen::{can_follow, with_record};
 use crate::tally::Seen;
 use job_format::tag::Tag;
 
-// Whether no byte is left.
-fn is_spent(s: &[u8]) -> bool
-    ensures { result ≡ (length s.now == 0) }
-{
-    s.len() == 0
-}
-
 // The first pass: frames, order and counts. How many cells there are, or the first wrong record.
-fn frames_fault(bytes: &[u8]) -> Result<usize, usize>
+fn test_frames(bytes: &[u8]) -> Result<usize, JobFault>
     requires { length bytes.now ≤ most_bytes }
-    ensures { MatchResult result (λ n. Framed bytes.now × (n ≡ cell_count (records bytes.now))) (λ n. Misframed bytes.now n) }
+    ensures { MatchResult result (λ n. Framed bytes.now × (n ≡ cell_count (records bytes.now))) (λ fault. Judged bytes.now (Err fault)) }
 {
-    let mut s = bytes;
-    let mut n: usize = 0;
-    let mut seen = Seen {
-        last: 0,
-        run: 0,
-        cells: 0,
-    };
-    while let Some(record) = split(s) {
-        if !can_follow(seen, record.tag, record.body.len()) {
-            return Err(n);
+    let mut walk = records(bytes);
+    let mut seen = Seen::default();
+    while let Some(record) = walk.next() {
+        if !seen.can_follow(record.tag, record.body.len()) {
+            return Err(JobFault::Frame(record.number));
         }
-        seen = with_record(seen, record.tag);
-        s = record.rest;
-        n += 1;
+        seen = seen.with_record(record.tag);
     }
-    if !is_spent(s) {
-        return Err(n);
+    if !walk.rest.is_empty() {
+        return Err(JobFault::Frame(walk.number));
     }
     Ok(seen.cells)
 }
 
 // The second pass: each cell. The first that is turned down, with its record.
-fn cells_fault(bytes: &[u8], cells: usize) -> Result<(), JobFault>
+fn test_cells(bytes: &[u8], cells: usize) -> Result<(), JobFault>
     requires framed { Framed bytes.now }
     requires cells { cells ≡ cell_count (records bytes.now) }
     ensures { Judged bytes.now result }
 {
-    let cell = Tag::Cell.number();
-    let mut s = bytes;
-    let mut n: usize = 0;
-    while let Some(record) = split(s) {
+    let cell = u8::from(Tag::Cell);
+    for record in records(bytes) {
         if record.tag == cell {
-            if let Some(why) = cell_fault(record.body, cells) {
-                return Err(JobFault::Cell(n, why));
-            }
+            CellBody::new(record.body)
+                .test(cells)
+                .map_err(|why| JobFault::Cell(record.number, why))?;
         }
-        s = record.rest;
-        n += 1;
     }
     Ok(())
 }
@@ -75,10 +56,8 @@ fn first_fault(bytes: &[u8]) -> Result<(), JobFault>
     if bytes.len() > MOST_BYTES {
         return Err(JobFault::Frame(0));
     }
-    match frames_fault(bytes) {
-        Ok(cells) => cells_fault(bytes, cells),
-        Err(n) => Err(JobFault::Frame(n)),
-    }
+    let cells = test_frames(bytes)?;
+    test_cells(bytes, cells)
 }
 
 // The same, with what it says of the jobs that are written so.

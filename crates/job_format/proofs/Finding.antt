@@ -9,22 +9,17 @@ use Rattle.job_format.specs.Frames.{Raw, no_raw, is_whole, records, Splits, fron
 use Rattle.job_format.specs.Bodies.{shaped, limit, bodies, cell_sound, cell_in}
 use Rattle.job_format.specs.Order.{at, Follow, CellsSound, cell_count, last_tag}
 use Rattle.job_format.specs.Contents.{Found, job_cells}
-use Rattle.job_format.proofs.Walks.{records_more, records_none, rest_shorter}
+use Rattle.job_format.proofs.Walks.{records_split, records_none, rest_shorter}
 use Rattle.job_format.proofs.Tagged.{three, bodies_same, bodies_other}
 
 module _ (t : ℕ) {s : List ℕ} {tag : ℕ} {body rest : List ℕ} (sp : Splits s tag body rest) where
-  records_here : records s ≡ record { tag = tag; body = body } ∷ records rest
-  records_here =
-      let front : front_of s ≡ record { tag = tag; body = body } = λ i. record { tag = sym sp.tag_is i; body = sym sp.body_is i } in
-      records_more s sp.whole ∙ ap₂ ◌∷◌ front (ap records (sym sp.rest_is))
-
   pub bodies_here : tag ≡ t → bodies t (records s) ≡ body ∷ bodies t (records rest)
   unfolding bodies
-  bodies_here e = ap (bodies t) records_here ∙ cond-true (eqb tag t) _ _ (eq-eqb tag t e)
+  bodies_here e = ap (bodies t) (records_split sp) ∙ cond-true (eqb tag t) _ _ (eq-eqb tag t e)
 
   pub bodies_there : (tag ≡ t → ⊥) → bodies t (records s) ≡ bodies t (records rest)
   unfolding bodies
-  bodies_there ne = ap (bodies t) records_here ∙ cond-false (eqb tag t) _ _ (ne_eqb tag t ne)
+  bodies_there ne = ap (bodies t) (records_split sp) ∙ cond-false (eqb tag t) _ _ (ne_eqb tag t ne)
 
   pub less : length rest < length s
   less = omega (arith, ap length sp.rest_is, rest_shorter s sp.whole)

@@ -69,6 +69,25 @@ pub left_none : (s : List ℕ) → is_whole s ≡ false → leftover s ≡ s
 unfolding leftover left_in
 left_none s h = same_left (length s) (suc (length s)) s (omega arith) (omega arith) ∙ cond-false (is_whole s) (left_in (length s) (rest_of s)) s h
 
+pub records_split : {s : List ℕ} {tag : ℕ} {body rest : List ℕ} → Splits s tag body rest → records s ≡ record { tag = tag; body = body } ∷ records rest
+records_split {s} {tag} {body} {rest} sp =
+    let front : front_of s ≡ record { tag = tag; body = body } = λ i. record { tag = sym sp.tag_is i; body = sym sp.body_is i } in
+    records_more s sp.whole ∙ ap₂ ◌∷◌ front (ap records (sym sp.rest_is))
+
+-- no more records than bytes
+few_in : (k : ℕ) (s : List ℕ) → length (records_in k s) ≤ k
+unfolding records_in
+few_in zero s = omega arith
+few_in (suc k) s = by (is_whole s) (few_in k (rest_of s))
+  where
+    by : (w : Bool) → length (records_in k (rest_of s)) ≤ k → length (cond w (front_of s ∷ records_in k (rest_of s)) []) ≤ suc k
+    by true h = omega arith
+    by false h = omega arith
+
+pub records_few : (s : List ℕ) → length (records s) ≤ length s
+unfolding records
+records_few s = few_in (length s) s
+
 -- where a walk stands: n records are behind it, and s is before it
 pub record Stands (all : List ℕ) (n : ℕ) (s : List ℕ) : Type 0 where
   pub ahead : records s ≡ drop n (records all)
@@ -80,14 +99,8 @@ pub start : (all : List ℕ) → Stands all 0 all
 start all = record { ahead = refl; left = refl; bound = omega arith; within = omega arith }
 
 module _ {all s : List ℕ} {n tag : ℕ} {body rest : List ℕ} (st : Stands all n s) (sp : Splits s tag body rest) where
-  rs : List Raw
-  rs = records all
-
-  front : front_of s ≡ record { tag = tag; body = body }
-  front = λ i. record { tag = sym sp.tag_is i; body = sym sp.body_is i }
-
   here_cons : drop n (records all) ≡ record { tag = tag; body = body } ∷ records rest
-  here_cons = sym st.ahead ∙ records_more s sp.whole ∙ ap₂ ◌∷◌ front (ap records (sym sp.rest_is))
+  here_cons = sym st.ahead ∙ records_split sp
 
   pub here_within : n < length (records all)
   here_within = omega (arith, ap length here_cons, length-drop n (records all))

@@ -1,8 +1,19 @@
+use Rattle.std.proofs.Common.{ℕ, ◌≤◌, List, length, Some, None, Option, MatchOption, vec_items}
+use Rattle.job_format.specs.Frames.{records}
+use Rattle.job_format.specs.Order.{Follow}
+use Rattle.job_format.specs.Bodies.{bodies}
+use Rattle.job_format.specs.Contents.{Located, TextAt}
 use Rattle.job_format.proofs.Rising.{text_counted}
-use Rattle.job.specs.Held.{job_bytes}
+use Rattle.job.specs.Entered.{text_of, texts_left}
+use Rattle.job.specs.declared.text.Text.{Text}
+use Rattle.job.proofs.Numbering.{nth_located}
 use Rattle.job.proofs.verified.Job.text.Goals as goal
 
-pub returns-in-Some : goal.returns-in-Some
-returns-in-Some c =
-    let p = c.in-Some.ensures in
-    record { found = p.found; located = p; number = text_counted (job_bytes c.args.self.now) c.args.self.now.follow c.args.v c.in-Some.place.record c.in-Some.place.body.now p }
+text_at : (s : List ℕ) → Follow (records s) (length (records s)) → (v : ℕ) (r : Option Text) → MatchOption r (length (bodies 4 (records s)) ≤ v) (λ t. Located (records s) 4 v t.«record» t.bytes.now) → MatchOption r (length (bodies 4 (records s)) ≤ v) (λ t. TextAt s v t.«record» t.bytes.now)
+text_at s fo v None h = h
+text_at s fo v (Some t) h = record { found = h.found; located = h; number = text_counted s fo v t.«record» t.bytes.now h }
+
+pub returns : goal.returns
+returns c =
+    let j = c.args.self.now in
+    text_at (vec_items j.bytes) j.follow c.args.v c.nth.result (nth_located text_of texts_left 4 c.args.v (records (vec_items j.bytes)) c.texts_in_order.result c.nth.new.self c.nth.result c.texts_in_order.ensures c.nth.ensures.ran)
