@@ -5,4 +5,5 @@ pub mod Accepting
 pub mod Parts
 pub mod Steps
 pub mod Numbering
+pub mod Texts
 pub mod Results

@@ -62,14 +62,8 @@ impl<S: TypeMatcherAlloc> Tables<S> {
         requires { AllRight (C.TyCustom.custom customs.now) (state_of S.TypeMatcherAlloc.nodes self.now) }
         ensures { IfOk result (λ xs. xs.items ≡ map (answered (state_of S.TypeMatcherAlloc.nodes self.now) (world (job_cells (job_bytes job.now)) (C.TyCustom.custom customs.now))) (job_queries (job_bytes job.now))) }
     {
-        let n = job.queries();
-        let mut all = Vec::with_capacity(memory, n)?;
-        for v in 0..n {
-            match job.query(v) {
-                Some(query) => all.push_reserved(self.answer(job, customs, query)),
-                None => unreachable(),
-            }
-        }
-        Ok(all)
+        job.queries_in_order()
+            .map(|query| self.answer(job, customs, query))
+            .collect(memory)
     }
 }

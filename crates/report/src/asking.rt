@@ -25,15 +25,7 @@ use working_set::set::WorkingSet;
 pub(crate) fn queries_of(memory: Global, job: &Job) -> Result<Vec<Query>, AllocError>
     ensures { IfOk result (λ qs. qs.items ≡ job_queries (job_bytes job.now)) }
 {
-    let n = job.queries();
-    let mut all = Vec::with_capacity(memory, n)?;
-    for v in 0..n {
-        match job.query(v) {
-            Some(query) => all.push_reserved(query),
-            None => unreachable(),
-        }
-    }
-    Ok(all)
+    job.queries_in_order().collect(memory)
 }
 
 // The calls that ask the queries.

@@ -136,12 +136,8 @@ impl<S: TypeMatcherAlloc> Tables<S> {
         ensures entered { MatchResult result (λ _. EnterAll (setting S.TypeMatcherAlloc.sharing (S.TypeMatcherAlloc.limit self.old.store) (C.TyCustom.custom customs.now)) (job_texts (job_bytes job.now)) (state_of S.TypeMatcherAlloc.nodes self.old) (state_of S.TypeMatcherAlloc.nodes self.new)) (λ bad. Stopped (setting S.TypeMatcherAlloc.sharing (S.TypeMatcherAlloc.limit self.old.store) (C.TyCustom.custom customs.now)) (job_bytes job.now) (state_of S.TypeMatcherAlloc.nodes self.old) bad) }
         ensures right { OnOk result (AllRight (C.TyCustom.custom customs.now) (state_of S.TypeMatcherAlloc.nodes self.new)) }
     {
-        let n = job.texts();
-        for v in 0..n {
-            match job.text(v) {
-                Some(text) => self.enter(customs, text.record, text.bytes)?,
-                None => unreachable(),
-            }
+        for text in job.texts_in_order() {
+            self.enter(customs, text.record, text.bytes)?;
         }
         Ok(())
     }

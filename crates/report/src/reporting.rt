@@ -54,7 +54,7 @@ impl BadRecord {
         ensures { result ≡ bad_says self }
     {
         match self {
-            BadRecord::Job(fault) => fault.report(),
+            BadRecord::Job(fault) => Report::from(fault),
             BadRecord::Text(record, fault) => Report {
                 record,
                 number: fault.code(),
