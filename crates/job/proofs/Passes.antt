@@ -48,7 +48,7 @@ module _ (all : List ℕ) (w : Records) (x : Record) (after : Records) (st : Sta
     stop small h = subst (Misframed all) (sym sp.0) (record { small = small; before = fo; here = inl (here_within st sp.2, this ∙ h) })
 
     pub room : length all ≤ 60000 → can_follow_lem seen x.tag (length x.body.now) ≡ true → (had seen x.tag < 60000) × (seen.cells < 60000)
-    room small h = (few (may seen x.tag (length x.body.now) h).2, omega (arith, sees.cells, cells_few 1 (take w.number (records all)), short, st.bound, less 0 sp.2))
+    room small h = (few (may seen x.tag (length x.body.now) h).2, omega (arith, sees.cells, cells_few 1 (take w.number (records all)), short, st.bound, less sp.2))
       where
         short : length (take w.number (records all)) ≤ w.number
         short = omega (arith, length-take w.number (records all))

@@ -1,4 +1,4 @@
-ghost use Rattle.std.specs.Prelude.{◌≡◌, ◌+◌, ◌*◌, ◌≤◌, length, slice_index};
+ghost use Rattle.std.specs.Prelude.{◌≡◌, ℕ, ◌+◌, ◌*◌, ◌<◌, ◌≤◌, length, slice_index};
 ghost use Rattle.job_format.specs.Tags.{tag_number};
 ghost use Rattle.job_format.specs.Bodies.{shaped, limit, signed_at};
 
@@ -7,12 +7,20 @@ use crate::limits::{
 };
 use job_format::tag::Tag;
 
+// So many bytes from the place i on.
+fn chunk_at<const N: usize>(body: &[u8], i: usize) -> [u8; N]
+    requires { i + N ≤ length body.now }
+    ensures { (k : ℕ) → k < N → slice_index result k ≡ slice_index body.now (i + k) }
+{
+    *body[i..].first_chunk().unwrap()
+}
+
 // A two-byte number from the place i on.
 pub(crate) fn two_at(body: &[u8], i: usize) -> u16
     requires { i + 2 ≤ length body.now }
     ensures { result ≡ slice_index body.now i * 256 + slice_index body.now (i + 1) }
 {
-    u16::from_be_bytes([body[i], body[i + 1]])
+    u16::from_be_bytes(chunk_at(body, i))
 }
 
 // An eight-byte signed number from the place i on.
@@ -20,16 +28,7 @@ pub(crate) fn eight_at(body: &[u8], i: usize) -> i64
     requires { i + 8 ≤ length body.now }
     ensures { result ≡ signed_at i body.now }
 {
-    i64::from_be_bytes([
-        body[i],
-        body[i + 1],
-        body[i + 2],
-        body[i + 3],
-        body[i + 4],
-        body[i + 5],
-        body[i + 6],
-        body[i + 7],
-    ])
+    i64::from_be_bytes(chunk_at(body, i))
 }
 
 // Whether the body of a record can be so long.

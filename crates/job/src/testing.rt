@@ -60,7 +60,7 @@ fn first_fault(bytes: &[u8]) -> Result<(), JobFault>
     test_cells(bytes, cells)
 }
 
-// The same, with what it says of the jobs that are written so.
+// The same, with what it says of the jobs that are written so: that a parameter's bytes are below 256 is known.
 fn judge(bytes: &[u8]) -> Result<(), JobFault>
     ensures judged { Judged bytes.now result }
     ensures exact { Accepts bytes.now result }

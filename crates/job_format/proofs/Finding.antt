@@ -1,46 +1,19 @@
 -- Records found by their tag, and the laws of a job's cells. Assumes nothing.
-use Rattle.std.proofs.Common.{◌≡◌, ℕ, zero, suc, ◌-◌, ◌%◌, ◌<◌, ◌≤◌, Bool, true, false, cond, eqb, ltb, leb, ◌⊎◌, List, [], ◌∷◌, ◌++◌, length, get_or, take, drop, sym, refl, ap, ◌∙◌, subst, ap₂, inl, inr, add-one, arith, length-drop}
-use Rattle.std.proofs.lemmas.List.{take_more, take_all, length-map, get_or-map, drop_more, length_push}
-use Rattle.std.proofs.lemmas.Bool.{and_parts, leb-true, ltb-true, cond-true, cond-false, eq-eqb, ne_eqb, cases_eq, eqb-true}
+use Rattle.std.proofs.Common.{◌≡◌, ℕ, zero, suc, ◌-◌, ◌%◌, ◌<◌, ◌≤◌, Bool, true, false, cond, eqb, ltb, leb, ◌⊎◌, List, [], ◌∷◌, ◌++◌, length, get_or, take, sym, refl, ap, ◌∙◌, subst, inl, inr, add-one, arith}
+use Rattle.std.proofs.lemmas.List.{take_more, take_all, length-map, get_or-map, length_push}
+use Rattle.std.proofs.lemmas.Bool.{and_parts, leb-true, ltb-true, cases_eq, eqb-true}
 use Rattle.values.specs.Cells.{Cell, no_cell, Closed, Formed, well_formed, each}
 use Rattle.values.specs.Held.{Lies}
 use Rattle.values.proofs.Eaches.{each_at}
-use Rattle.job_format.specs.Frames.{Raw, no_raw, is_whole, records, Splits, front_of}
+use Rattle.job_format.specs.Frames.{Raw, no_raw, records, Splits}
 use Rattle.job_format.specs.Bodies.{shaped, limit, bodies, cell_sound, cell_in}
 use Rattle.job_format.specs.Order.{at, Follow, CellsSound, cell_count, last_tag}
 use Rattle.job_format.specs.Contents.{Found, job_cells}
-use Rattle.job_format.proofs.Walks.{records_split, records_none, rest_shorter}
+use Rattle.job_format.proofs.Walks.{rest_shorter}
 use Rattle.job_format.proofs.Tagged.{three, bodies_same, bodies_other}
 
-module _ (t : ℕ) {s : List ℕ} {tag : ℕ} {body rest : List ℕ} (sp : Splits s tag body rest) where
-  pub bodies_here : tag ≡ t → bodies t (records s) ≡ body ∷ bodies t (records rest)
-  unfolding bodies
-  bodies_here e = ap (bodies t) (records_split sp) ∙ cond-true (eqb tag t) _ _ (eq-eqb tag t e)
-
-  pub bodies_there : (tag ≡ t → ⊥) → bodies t (records s) ≡ bodies t (records rest)
-  unfolding bodies
-  bodies_there ne = ap (bodies t) (records_split sp) ∙ cond-false (eqb tag t) _ _ (ne_eqb tag t ne)
-
-  pub less : length rest < length s
-  less = omega (arith, ap length sp.rest_is, rest_shorter s sp.whole)
-
-pub bodies_none : (t : ℕ) (s : List ℕ) → is_whole s ≡ false → bodies t (records s) ≡ []
-unfolding bodies
-bodies_none t s h = ap (bodies t) (records_none s h)
-
--- a walk that looks for the place v, with `left` to go in ys
-pub found : (xs ys : List (List ℕ)) (v left : ℕ) (b : List ℕ) (zs : List (List ℕ)) → drop v xs ≡ drop left ys → left ≡ 0 → ys ≡ b ∷ zs → Found xs v b
-found xs ys v left b zs e z h =
-    let f : drop v xs ≡ b ∷ zs = e ∙ ap (λ n. drop n ys) z ∙ h in
-    let l : v < length xs = omega (arith, ap length f, length-drop v xs) in
-    record { within = l; is = sym (ap (λ (ws : List (List ℕ)). get_or ws 0 []) (sym (drop_more xs v [] l) ∙ f)) }
-
-pub passed : (xs ys : List (List ℕ)) (v left : ℕ) (b : List ℕ) (zs : List (List ℕ)) → drop v xs ≡ drop left ys → (left ≡ 0 → ⊥) → ys ≡ b ∷ zs → drop v xs ≡ drop (left - 1) zs
-passed xs ys v zero b zs e n h = absurd (n refl)
-passed xs ys v (suc left) b zs e n h = e ∙ ap (drop (suc left)) h ∙ ap (λ k. drop k zs) (let q : left ≡ suc left - 1 = omega arith in q)
-
-pub missing : (xs ys : List (List ℕ)) (v left : ℕ) → drop v xs ≡ drop left ys → ys ≡ [] → length xs ≤ v
-missing xs ys v left e h = omega (arith, ap length e, length-drop v xs, length-drop left ys, ap length h)
+pub less : {s : List ℕ} {tag : ℕ} {body rest : List ℕ} → Splits s tag body rest → length rest < length s
+less {s} sp = omega (arith, ap length sp.rest_is, rest_shorter s sp.whole)
 
 -- what holds of each record with a tag holds of each of their bodies
 pub bodies_each : (P : List ℕ → Type 0) (t : ℕ) (rs : List Raw) → ((i : ℕ) → i < length rs → (at rs i).tag ≡ t → P (at rs i).body) → (v : ℕ) → v < length (bodies t rs) → P (get_or (bodies t rs) v [])

@@ -1,8 +1,6 @@
 pub mod Tagged
 pub mod Walks
-pub mod Pairing
 pub mod Finding
-pub mod Having
 pub mod Digits
 pub mod Framing
 pub mod Entries

@@ -2,7 +2,7 @@
 use Rattle.std.proofs.Common.{◌≡◌, ℕ, zero, suc, ◌+◌, ◌<◌, ◌≤◌, Bool, true, false, cond, leb, List, [], ◌∷◌, length, get_or, drop, sym, refl, ap, ◌∙◌, ap₂, arith, length-drop}
 use Rattle.std.proofs.lemmas.List.{drop_more}
 use Rattle.std.proofs.lemmas.Bool.{and_parts, leb-true, cond-true, cond-false}
-use Rattle.job_format.specs.Frames.{Raw, no_raw, long, is_whole, front_of, rest_of, records_in, left_in, records, leftover, Splits}
+use Rattle.job_format.specs.Frames.{no_raw, long, is_whole, front_of, rest_of, records_in, left_in, records, leftover, Splits}
 
 pub whole_long : (s : List ℕ) → is_whole s ≡ true → (3 ≤ length s) × (3 + long s ≤ length s)
 whole_long s h = let p = and_parts (leb 3 (length s)) (leb (3 + long s) (length s)) h in (leb-true 3 (length s) p.0, leb-true (3 + long s) (length s) p.1)

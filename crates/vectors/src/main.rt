@@ -1,32 +1,32 @@
 // Replays recorded jobs: each has its length in four bytes in front of it.
 #![tactic(auto)]
 
-ghost use Rattle.std.specs.Prelude.{◌<◌, length, IfSome};
+ghost use Rattle.std.specs.Prelude.{length};
+ghost use Rattle.std.specs.Iterator.{at_most};
 
 use report::lines::lines;
 use std::fs;
 
-// A job at the front of some bytes, and what follows it.
-#[derive(Clone, Copy)]
-struct Front<'a> {
-    job: &'a [u8],
+// The jobs that are still to come.
+#[derive(Drop)]
+struct Jobs<'a> {
     rest: &'a [u8],
 }
 
-fn next_job(s: &[u8]) -> Option<Front<'_>>
-    ensures { IfSome result (λ f. length f.rest.now < length s.now) }
-{
-    let [a, b, c, d, after @ ..] = s else {
-        return None;
-    };
-    let len = u32::from_be_bytes([*a, *b, *c, *d]) as usize;
-    if after.len() < len {
-        return None;
+impl<'a> Iterator for Jobs<'a> {
+    type Item = &'a [u8];
+
+    ghost remaining = { λ jobs. at_most (length jobs.rest.now) };
+
+    fn next(&mut self) -> Option<&'a [u8]> {
+        let [a, b, c, d, after @ ..] = self.rest else {
+            return None;
+        };
+        let len = u32::from_be_bytes([*a, *b, *c, *d]) as usize;
+        let (job, rest) = after.split_at_checked(len)?;
+        self.rest = rest;
+        Some(job)
     }
-    Some(Front {
-        job: &after[0..len],
-        rest: &after[len..],
-    })
 }
 
 fn show(rt: HostRuntime, job: &[u8]) -> anyhow::Result<()> {
@@ -37,10 +37,8 @@ fn show(rt: HostRuntime, job: &[u8]) -> anyhow::Result<()> {
 
 fn main(rt: HostRuntime) -> anyhow::Result<()> {
     let all = fs::read(&rt, "vectors.jobs")?;
-    let mut s = all.as_slice();
-    while let Some(next) = next_job(s) {
-        show(rt, next.job)?;
-        s = next.rest;
+    for job in (Jobs { rest: &all }) {
+        show(rt, job)?;
     }
     Ok(())
 }
