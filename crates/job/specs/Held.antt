@@ -20,7 +20,7 @@ abbrev pub wide_of : List ℕ → ℕ
 wide_of b = wide (slice_index b 0) (slice_index b 1)
 
 abbrev pub cell_held : CellBody → Cell
-cell_held c = record { ty = c.ty; flags = c.flags; mark = c.mark; parts = map wide_of c.parts.now }
+cell_held c = record { ty = c.head.ty; flags = c.head.flags; mark = c.head.mark; parts = map wide_of c.parts.now }
 
 -- why a cell is turned down, where there are n cells
 abbrev pub fault_of : ℕ → Cell → Option Refusal

@@ -8,14 +8,13 @@ ghost use Rattle.job.specs.Held.{cell_held, fault_of};
 use crate::bodies::{eight_at, two_at};
 use crate::limits::CELL_BYTES;
 use values::form::is_formed;
+use values::head::Head;
 use values::refusal::Refusal;
 
 // A cell as it stands in the body of a record.
 #[derive(Clone, Copy)]
 pub(crate) struct CellBody<'a> {
-    pub(crate) ty: u16,
-    pub(crate) flags: u8,
-    pub(crate) mark: i64,
+    pub(crate) head: Head,
     pub(crate) parts: &'a [[u8; 2]],
 }
 
@@ -26,12 +25,12 @@ impl<'a> CellBody<'a> {
         ensures { cell_held result ≡ cell_in body.now }
     {
         let (parts, _) = body[CELL_BYTES..].as_chunks();
-        CellBody {
+        let head = Head {
             ty: two_at(body, 0),
             flags: body[2],
             mark: eight_at(body, 3),
-            parts,
-        }
+        };
+        CellBody { head, parts }
     }
 
     // The part at the place i.
@@ -58,7 +57,7 @@ impl<'a> CellBody<'a> {
         if !self.has_parts_below(cells) {
             return Err(Refusal::NoValue);
         }
-        if !is_formed(self.ty, self.flags, self.mark, self.parts.len()) {
+        if !is_formed(self.head, self.parts.len()) {
             return Err(Refusal::BadForm);
         }
         Ok(())

@@ -1,5 +1,5 @@
 ghost use Rattle.std.specs.Prelude.{◌≡◌, ◌≤◌, length, map, IfOk, MatchOption};
-ghost use Rattle.custom.specs.Held.{marks_in, ranges_in};
+ghost use Rattle.custom.specs.Held.{entries_in, marks_in, ranges_in};
 ghost use Rattle.job_format.specs.Tags.{tag_number, text_tag};
 ghost use Rattle.job_format.specs.Frames.{records};
 ghost use Rattle.job_format.specs.Bodies.{bodies};
@@ -12,7 +12,7 @@ use crate::entries::{Entries, Queries, Texts};
 use crate::from_body::FromBody;
 use crate::text::Text;
 use crate::verified::Job;
-use custom::entries::{Mark, Range};
+use custom::list::Entries as Tests;
 use custom::marks::Marks;
 use custom::ranges::Ranges;
 use job_format::query::Query;
@@ -75,19 +75,25 @@ impl Job {
         self.queries_in_order().nth(v)
     }
 
+    // The tests that the entries of one kind make.
+    fn tests<T: FromBody>(&self, heap: Global) -> Result<Tests<T>, AllocError>
+        ensures { IfOk result (λ m. entries_in m ≡ map T.read (bodies (tag_number T.TAG) (records (job_bytes self.now)))) }
+    {
+        let entries = self.entries().collect(heap)?;
+        Ok(Tests::new(entries).unwrap())
+    }
+
     // The Marks of the job.
     pub fn marks(&self, heap: Global) -> Result<Marks, AllocError>
         ensures { IfOk result (λ m. marks_in m ≡ job_marks (job_bytes self.now)) }
     {
-        let entries: Vec<Mark> = self.entries().collect(heap)?;
-        Ok(Marks::new(entries).unwrap())
+        self.tests(heap)
     }
 
     // The Ranges of the job.
     pub fn ranges(&self, heap: Global) -> Result<Ranges, AllocError>
         ensures { IfOk result (λ m. ranges_in m ≡ job_ranges (job_bytes self.now)) }
     {
-        let entries: Vec<Range> = self.entries().collect(heap)?;
-        Ok(Ranges::new(entries).unwrap())
+        self.tests(heap)
     }
 }

@@ -1,7 +1,7 @@
 use values::refusal::Refusal;
 
 // Why a job is turned down, and at which record.
-#[derive(Clone, Copy)]
+#[derive(Clone, Copy, PartialEq, Eq, Debug)]
 pub enum JobFault {
     // The size of the job, or the frame, the order or the count at a record.
     Frame(usize),
@@ -10,7 +10,7 @@ pub enum JobFault {
 }
 
 // What is written of a fault: the record, the number of the reason, and the byte of a text where that is at fault, else 0.
-#[derive(Clone, Copy)]
+#[derive(Clone, Copy, PartialEq, Eq, Debug)]
 pub struct Report {
     pub record: usize,
     pub number: u8,
