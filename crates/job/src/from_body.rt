@@ -11,7 +11,7 @@ use job_format::query::Query;
 use job_format::tag::Tag;
 
 // What the body of a record with one tag says.
-pub trait FromBody: Copy {
+pub(crate) trait FromBody: Copy {
     ghost TAG: { GhostTag };
 
     ghost read: { List ℕ → Self };

@@ -7,7 +7,7 @@ mod contents;
 pub mod entries;
 pub mod fault;
 mod frames;
-pub mod from_body;
+mod from_body;
 pub mod job_heap;
 pub mod limits;
 pub mod opening;
