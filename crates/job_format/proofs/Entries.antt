@@ -1,14 +1,15 @@
 -- What a record says, written and read again. Assumes nothing.
-use Rattle.std.proofs.Common.{◌≡◌, ℕ, suc, ◌+◌, ◌-◌, ◌/◌, ◌%◌, ◌≤◌, true, cond, eqb, leb, ◌⊎◌, List, [], ◌∷◌, ◌++◌, length, get_or, ℤ, sym, refl, ap, ◌∙◌, subst, inl, inr, arith, w64, SFits, to_z, of_z}
+use Rattle.std.proofs.Common.{◌≡◌, ℕ, ◌+◌, ◌-◌, ◌/◌, ◌%◌, ◌<◌, ◌≤◌, true, cond, eqb, leb, ◌⊎◌, List, [], ◌∷◌, ◌++◌, length, get_or, take, drop, ℤ, sym, refl, ap, ◌∙◌, subst, ap₂, length-drop, take-append-drop, inl, inr, arith, w64, SFits, to_z, of_z}
 use mir.ValLaws.{of_z_fits, to_z-Fits}
 use Rattle.std.proofs.lemmas.Int.{to_z-of_z}
+use Rattle.std.proofs.lemmas.List.{take_all, drop_more, drop-drop, get_or-drop}
 use Rattle.std.proofs.lemmas.Bool.{eqb-true, leb-true, and_parts}
 use Rattle.std.proofs.lemmas.Bool.Decides.{nat_tests}
 use Rattle.values.specs.Cells.{Cell}
-use Rattle.job_format.specs.Frames.{Raw, wide}
+use Rattle.job_format.specs.Frames.{Raw, two, wide}
 use Rattle.job_format.specs.Bodies.{signed_at, cell_in, shaped}
 use Rattle.job_format.specs.Contents.{mark_in, range_in, query_in_lem}
-use Rattle.job_format.specs.Encoding.{Entry, cell_e, mark_e, range_e, text_e, query_e, written, Signed, Bytes}
+use Rattle.job_format.specs.Encoding.{Entry, eight, cell_e, mark_e, range_e, text_e, query_e, written, Signed, Bytes}
 use Rattle.job_format.proofs.Digits.{two_back, two_wide, eight_of, sum8, sum_bytes, pairs_twos, twos_pairs}
 
 abbrev pub entry_of : Raw → Entry
@@ -19,64 +20,54 @@ entry_of r =
     (cond (eqb r.tag 4) (text_e r.body)
     (query_e (wide (get_or r.body 0 0) (get_or r.body 1 0)) (wide (get_or r.body 2 0) (get_or r.body 3 0))))))
 
+front_two : (xs : List ℕ) → Bytes xs → 2 ≤ length xs → two (wide (get_or xs 0 0) (get_or xs 1 0)) ≡ take 2 xs
+front_two [] b l = absurd (omega arith)
+front_two (x ∷ []) b l = absurd (omega arith)
+front_two (x ∷ (y ∷ xs)) b l = two_wide x y (b 1 (omega arith))
+
+front_eight : (xs : List ℕ) → Bytes xs → 8 ≤ length xs → eight (signed_at 0 xs) ≡ take 8 xs
+front_eight [] b l = absurd (omega arith)
+front_eight (x0 ∷ []) b l = absurd (omega arith)
+front_eight (x0 ∷ (x1 ∷ [])) b l = absurd (omega arith)
+front_eight (x0 ∷ (x1 ∷ (x2 ∷ []))) b l = absurd (omega arith)
+front_eight (x0 ∷ (x1 ∷ (x2 ∷ (x3 ∷ [])))) b l = absurd (omega arith)
+front_eight (x0 ∷ (x1 ∷ (x2 ∷ (x3 ∷ (x4 ∷ []))))) b l = absurd (omega arith)
+front_eight (x0 ∷ (x1 ∷ (x2 ∷ (x3 ∷ (x4 ∷ (x5 ∷ [])))))) b l = absurd (omega arith)
+front_eight (x0 ∷ (x1 ∷ (x2 ∷ (x3 ∷ (x4 ∷ (x5 ∷ (x6 ∷ []))))))) b l = absurd (omega arith)
+front_eight (x0 ∷ (x1 ∷ (x2 ∷ (x3 ∷ (x4 ∷ (x5 ∷ (x6 ∷ (x7 ∷ xs)))))))) b l =
+    eight_of x0 x1 x2 x3 x4 x5 x6 x7 (b 0 (omega arith)) (b 1 (omega arith)) (b 2 (omega arith)) (b 3 (omega arith)) (b 4 (omega arith)) (b 5 (omega arith)) (b 6 (omega arith)) (b 7 (omega arith))
+
+-- numbers from the place i on, written again
+module _ (i : ℕ) (xs : List ℕ) (b : Bytes xs) where
+  behind : Bytes (drop i xs)
+  behind k h = subst (λ (n : ℕ). n < 256) (sym (get_or-drop i xs k 0)) (b (i + k) (omega (arith, length-drop i xs)))
+
+  later : (k : ℕ) → get_or xs (i + k) 0 ≡ get_or (drop i xs) k 0
+  later k = sym (get_or-drop i xs k 0)
+
+  here : get_or xs i 0 ≡ get_or (drop i xs) 0 0
+  here = let e : i ≡ i + 0 = omega arith in ap (λ n. get_or xs n 0) e ∙ later 0
+
+  two_again : i + 2 ≤ length xs → two (wide (get_or xs i 0) (get_or xs (i + 1) 0)) ≡ take 2 (drop i xs)
+  two_again l = (λ j. two (wide (here j) (later 1 j))) ∙ front_two (drop i xs) behind (omega (arith, length-drop i xs))
+
+  eight_again : i + 8 ≤ length xs → eight (signed_at i xs) ≡ take 8 (drop i xs)
+  eight_again l = (λ j. eight (to_z w64 (sum8 (here j) (later 1 j) (later 2 j) (later 3 j) (later 4 j) (later 5 j) (later 6 j) (later 7 j)))) ∙ front_eight (drop i xs) behind (omega (arith, length-drop i xs))
+
 cell_again : (xs : List ℕ) → Bytes xs → 11 ≤ length xs → (length xs - 11) % 2 ≡ 0 → (written (cell_e (cell_in xs))).body ≡ xs
-cell_again [] b l e = absurd (omega arith)
-cell_again (x0 ∷ []) b l e = absurd (omega arith)
-cell_again (x0 ∷ (x1 ∷ [])) b l e = absurd (omega arith)
-cell_again (x0 ∷ (x1 ∷ (x2 ∷ []))) b l e = absurd (omega arith)
-cell_again (x0 ∷ (x1 ∷ (x2 ∷ (x3 ∷ [])))) b l e = absurd (omega arith)
-cell_again (x0 ∷ (x1 ∷ (x2 ∷ (x3 ∷ (x4 ∷ []))))) b l e = absurd (omega arith)
-cell_again (x0 ∷ (x1 ∷ (x2 ∷ (x3 ∷ (x4 ∷ (x5 ∷ [])))))) b l e = absurd (omega arith)
-cell_again (x0 ∷ (x1 ∷ (x2 ∷ (x3 ∷ (x4 ∷ (x5 ∷ (x6 ∷ []))))))) b l e = absurd (omega arith)
-cell_again (x0 ∷ (x1 ∷ (x2 ∷ (x3 ∷ (x4 ∷ (x5 ∷ (x6 ∷ (x7 ∷ [])))))))) b l e = absurd (omega arith)
-cell_again (x0 ∷ (x1 ∷ (x2 ∷ (x3 ∷ (x4 ∷ (x5 ∷ (x6 ∷ (x7 ∷ (x8 ∷ []))))))))) b l e = absurd (omega arith)
-cell_again (x0 ∷ (x1 ∷ (x2 ∷ (x3 ∷ (x4 ∷ (x5 ∷ (x6 ∷ (x7 ∷ (x8 ∷ (x9 ∷ [])))))))))) b l e = absurd (omega arith)
-cell_again (x0 ∷ (x1 ∷ (x2 ∷ (x3 ∷ (x4 ∷ (x5 ∷ (x6 ∷ (x7 ∷ (x8 ∷ (x9 ∷ (x10 ∷ xs))))))))))) b l e =
-    let more : Bytes xs = λ i h. b (suc (suc (suc (suc (suc (suc (suc (suc (suc (suc (suc (i)))))))))))) (omega arith) in
-    let rest = twos_pairs xs more (omega arith) in
-    λ i. two_wide x0 x1 (b 1 (omega arith)) i ++ (x2 ∷ (eight_of x3 x4 x5 x6 x7 x8 x9 x10 (b 3 (omega arith)) (b 4 (omega arith)) (b 5 (omega arith)) (b 6 (omega arith)) (b 7 (omega arith)) (b 8 (omega arith)) (b 9 (omega arith)) (b 10 (omega arith)) i ++ rest i))
+cell_again xs b l e =
+    let parts = twos_pairs (drop 11 xs) (behind 11 xs b) (omega (arith, length-drop 11 xs)) in
+    let mark = ap₂ ◌++◌ (eight_again 3 xs b (omega arith)) (parts ∙ sym (drop-drop 8 3 xs)) ∙ take-append-drop 8 (drop 3 xs) in
+    ap₂ ◌++◌ (two_again 0 xs b (omega arith)) (ap (λ (ys : List ℕ). get_or xs 2 0 ∷ ys) mark ∙ sym (drop_more xs 2 0 (omega arith))) ∙ take-append-drop 2 xs
 
 mark_again : (xs : List ℕ) → Bytes xs → length xs ≡ 10 → (written (mark_e (wide (get_or xs 0 0) (get_or xs 1 0)) (signed_at 2 xs))).body ≡ xs
-mark_again [] b l = absurd (omega arith)
-mark_again (x0 ∷ []) b l = absurd (omega arith)
-mark_again (x0 ∷ (x1 ∷ [])) b l = absurd (omega arith)
-mark_again (x0 ∷ (x1 ∷ (x2 ∷ []))) b l = absurd (omega arith)
-mark_again (x0 ∷ (x1 ∷ (x2 ∷ (x3 ∷ [])))) b l = absurd (omega arith)
-mark_again (x0 ∷ (x1 ∷ (x2 ∷ (x3 ∷ (x4 ∷ []))))) b l = absurd (omega arith)
-mark_again (x0 ∷ (x1 ∷ (x2 ∷ (x3 ∷ (x4 ∷ (x5 ∷ [])))))) b l = absurd (omega arith)
-mark_again (x0 ∷ (x1 ∷ (x2 ∷ (x3 ∷ (x4 ∷ (x5 ∷ (x6 ∷ []))))))) b l = absurd (omega arith)
-mark_again (x0 ∷ (x1 ∷ (x2 ∷ (x3 ∷ (x4 ∷ (x5 ∷ (x6 ∷ (x7 ∷ [])))))))) b l = absurd (omega arith)
-mark_again (x0 ∷ (x1 ∷ (x2 ∷ (x3 ∷ (x4 ∷ (x5 ∷ (x6 ∷ (x7 ∷ (x8 ∷ []))))))))) b l = absurd (omega arith)
-mark_again (x0 ∷ (x1 ∷ (x2 ∷ (x3 ∷ (x4 ∷ (x5 ∷ (x6 ∷ (x7 ∷ (x8 ∷ (x9 ∷ [])))))))))) b l = λ i. two_wide x0 x1 (b 1 (omega arith)) i ++ eight_of x2 x3 x4 x5 x6 x7 x8 x9 (b 2 (omega arith)) (b 3 (omega arith)) (b 4 (omega arith)) (b 5 (omega arith)) (b 6 (omega arith)) (b 7 (omega arith)) (b 8 (omega arith)) (b 9 (omega arith)) i
-mark_again (x0 ∷ (x1 ∷ (x2 ∷ (x3 ∷ (x4 ∷ (x5 ∷ (x6 ∷ (x7 ∷ (x8 ∷ (x9 ∷ (x10 ∷ xs))))))))))) b l = absurd (omega arith)
+mark_again xs b l = ap₂ ◌++◌ (two_again 0 xs b (omega arith)) (eight_again 2 xs b (omega arith) ∙ take_all 8 (drop 2 xs) (omega (arith, length-drop 2 xs))) ∙ take-append-drop 2 xs
 
 range_again : (xs : List ℕ) → Bytes xs → length xs ≡ 16 → (written (range_e (signed_at 0 xs) (signed_at 8 xs))).body ≡ xs
-range_again [] b l = absurd (omega arith)
-range_again (x0 ∷ []) b l = absurd (omega arith)
-range_again (x0 ∷ (x1 ∷ [])) b l = absurd (omega arith)
-range_again (x0 ∷ (x1 ∷ (x2 ∷ []))) b l = absurd (omega arith)
-range_again (x0 ∷ (x1 ∷ (x2 ∷ (x3 ∷ [])))) b l = absurd (omega arith)
-range_again (x0 ∷ (x1 ∷ (x2 ∷ (x3 ∷ (x4 ∷ []))))) b l = absurd (omega arith)
-range_again (x0 ∷ (x1 ∷ (x2 ∷ (x3 ∷ (x4 ∷ (x5 ∷ [])))))) b l = absurd (omega arith)
-range_again (x0 ∷ (x1 ∷ (x2 ∷ (x3 ∷ (x4 ∷ (x5 ∷ (x6 ∷ []))))))) b l = absurd (omega arith)
-range_again (x0 ∷ (x1 ∷ (x2 ∷ (x3 ∷ (x4 ∷ (x5 ∷ (x6 ∷ (x7 ∷ [])))))))) b l = absurd (omega arith)
-range_again (x0 ∷ (x1 ∷ (x2 ∷ (x3 ∷ (x4 ∷ (x5 ∷ (x6 ∷ (x7 ∷ (x8 ∷ []))))))))) b l = absurd (omega arith)
-range_again (x0 ∷ (x1 ∷ (x2 ∷ (x3 ∷ (x4 ∷ (x5 ∷ (x6 ∷ (x7 ∷ (x8 ∷ (x9 ∷ [])))))))))) b l = absurd (omega arith)
-range_again (x0 ∷ (x1 ∷ (x2 ∷ (x3 ∷ (x4 ∷ (x5 ∷ (x6 ∷ (x7 ∷ (x8 ∷ (x9 ∷ (x10 ∷ []))))))))))) b l = absurd (omega arith)
-range_again (x0 ∷ (x1 ∷ (x2 ∷ (x3 ∷ (x4 ∷ (x5 ∷ (x6 ∷ (x7 ∷ (x8 ∷ (x9 ∷ (x10 ∷ (x11 ∷ [])))))))))))) b l = absurd (omega arith)
-range_again (x0 ∷ (x1 ∷ (x2 ∷ (x3 ∷ (x4 ∷ (x5 ∷ (x6 ∷ (x7 ∷ (x8 ∷ (x9 ∷ (x10 ∷ (x11 ∷ (x12 ∷ []))))))))))))) b l = absurd (omega arith)
-range_again (x0 ∷ (x1 ∷ (x2 ∷ (x3 ∷ (x4 ∷ (x5 ∷ (x6 ∷ (x7 ∷ (x8 ∷ (x9 ∷ (x10 ∷ (x11 ∷ (x12 ∷ (x13 ∷ [])))))))))))))) b l = absurd (omega arith)
-range_again (x0 ∷ (x1 ∷ (x2 ∷ (x3 ∷ (x4 ∷ (x5 ∷ (x6 ∷ (x7 ∷ (x8 ∷ (x9 ∷ (x10 ∷ (x11 ∷ (x12 ∷ (x13 ∷ (x14 ∷ []))))))))))))))) b l = absurd (omega arith)
-range_again (x0 ∷ (x1 ∷ (x2 ∷ (x3 ∷ (x4 ∷ (x5 ∷ (x6 ∷ (x7 ∷ (x8 ∷ (x9 ∷ (x10 ∷ (x11 ∷ (x12 ∷ (x13 ∷ (x14 ∷ (x15 ∷ [])))))))))))))))) b l = λ i. eight_of x0 x1 x2 x3 x4 x5 x6 x7 (b 0 (omega arith)) (b 1 (omega arith)) (b 2 (omega arith)) (b 3 (omega arith)) (b 4 (omega arith)) (b 5 (omega arith)) (b 6 (omega arith)) (b 7 (omega arith)) i ++ eight_of x8 x9 x10 x11 x12 x13 x14 x15 (b 8 (omega arith)) (b 9 (omega arith)) (b 10 (omega arith)) (b 11 (omega arith)) (b 12 (omega arith)) (b 13 (omega arith)) (b 14 (omega arith)) (b 15 (omega arith)) i
-range_again (x0 ∷ (x1 ∷ (x2 ∷ (x3 ∷ (x4 ∷ (x5 ∷ (x6 ∷ (x7 ∷ (x8 ∷ (x9 ∷ (x10 ∷ (x11 ∷ (x12 ∷ (x13 ∷ (x14 ∷ (x15 ∷ (x16 ∷ xs))))))))))))))))) b l = absurd (omega arith)
+range_again xs b l = ap₂ ◌++◌ (eight_again 0 xs b (omega arith)) (eight_again 8 xs b (omega arith) ∙ take_all 8 (drop 8 xs) (omega (arith, length-drop 8 xs))) ∙ take-append-drop 8 xs
 
 query_again : (xs : List ℕ) → Bytes xs → length xs ≡ 4 → (written (query_e (wide (get_or xs 0 0) (get_or xs 1 0)) (wide (get_or xs 2 0) (get_or xs 3 0)))).body ≡ xs
-query_again [] b l = absurd (omega arith)
-query_again (x0 ∷ []) b l = absurd (omega arith)
-query_again (x0 ∷ (x1 ∷ [])) b l = absurd (omega arith)
-query_again (x0 ∷ (x1 ∷ (x2 ∷ []))) b l = absurd (omega arith)
-query_again (x0 ∷ (x1 ∷ (x2 ∷ (x3 ∷ [])))) b l = λ i. two_wide x0 x1 (b 1 (omega arith)) i ++ two_wide x2 x3 (b 3 (omega arith)) i
-query_again (x0 ∷ (x1 ∷ (x2 ∷ (x3 ∷ (x4 ∷ xs))))) b l = absurd (omega arith)
+query_again xs b l = ap₂ ◌++◌ (two_again 0 xs b (omega arith)) (two_again 2 xs b (omega arith) ∙ take_all 2 (drop 2 xs) (omega (arith, length-drop 2 xs))) ∙ take-append-drop 2 xs
 
 pub known : (t n : ℕ) → shaped t n ≡ true → (t ≡ 1) ⊎ ((t ≡ 2) ⊎ ((t ≡ 3) ⊎ ((t ≡ 4) ⊎ (t ≡ 5))))
 known t n h = grind (arith, nat_tests)

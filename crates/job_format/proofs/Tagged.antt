@@ -1,6 +1,6 @@
 -- Laws of tags, and of the bodies of records by their tag. Assumes nothing.
 use Rattle.std.proofs.Common.{◌≡◌, ℕ, suc, ◌+◌, ◌≤◌, Bool, true, false, cond, ◌&&◌, eqb, List, [], ◌∷◌, ◌++◌, length, refl, ap, ◌∙◌, arith}
-use Rattle.std.proofs.lemmas.Bool.{eq-eqb, ne_eqb, cond-true, cond-false}
+use Rattle.std.proofs.lemmas.Bool.{and_parts, eq-eqb, ne_eqb, cond-true, cond-false}
 use Rattle.job_format.specs.Frames.{Raw}
 use Rattle.job_format.specs.Bodies.{bodies}
 use Rattle.job_format.specs.Order.{last_tag}
@@ -37,10 +37,7 @@ count_same t rs r e = ap length (bodies_same t rs r e) ∙ push (bodies t rs)
     push (b ∷ bs) = let i = push bs in omega arith
 
 pub three : (a b d : Bool) → (a && b && d) ≡ true → (a ≡ true) × (b ≡ true) × (d ≡ true)
-three true true true h = (refl, refl, refl)
-three true true false h = let z : ◌≡◌ {A = ℕ} 0 1 = cc in absurd (omega arith)
-three true false d h = let z : ◌≡◌ {A = ℕ} 0 1 = cc in absurd (omega arith)
-three false b d h = let z : ◌≡◌ {A = ℕ} 0 1 = cc in absurd (omega arith)
+three a b d h = let p = and_parts (a && b) d h in let q = and_parts a b p.0 in (q.0, q.1, p.1)
 
 -- no more cells than records
 pub cells_few : (t : ℕ) (rs : List Raw) → length (bodies t rs) ≤ length rs
