@@ -5,10 +5,9 @@ use Rattle.values.specs.Cells.{each, well_formed}
 use Rattle.values.specs.declared.refusal.Refusal.{Refusal}
 use Rattle.values.specs.declared.refusal.Refusal.TheVariants.{NoValue, BadForm}
 use Rattle.job_format.specs.Frames.{Raw, no_raw, records}
-use Rattle.job_format.specs.Bodies.{shaped, limit, bodies, cell_fault_lem, cell_sound, cell_in}
+use Rattle.job_format.specs.Bodies.{shaped, limit, bodies, fault_of, cell_fault_lem, cell_sound, cell_in}
 use Rattle.job_format.specs.Order.{at, follows, Follow, CellsSound, cell_count, last_tag, Framed, Misframed, Unsound, Verified}
 use Rattle.job.specs.Seens.{had, can_follow_lem, with_record_lem, Sees}
-use Rattle.job.specs.Held.{fault_of}
 use Rattle.job.specs.Walked.{StartsAt, Steps}
 use Rattle.job.specs.declared.tally.Seen.{Seen}
 use Rattle.job.specs.declared.records.Record.{Record}

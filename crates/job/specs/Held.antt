@@ -1,8 +1,6 @@
 -- The bytes of a job and its cells, by which contracts speak of them. Assumes nothing.
-use Rattle.std.specs.Prelude.{ℕ, cond, List, map, Option, Some, None, nat_lt, slice_index, vec_items}
-use Rattle.values.specs.Cells.{Cell, well_formed, each}
-use Rattle.values.specs.declared.refusal.Refusal.{Refusal}
-use Rattle.values.specs.declared.refusal.Refusal.TheVariants.{NoValue, BadForm}
+use Rattle.std.specs.Prelude.{ℕ, List, map, slice_index, vec_items}
+use Rattle.values.specs.Cells.{Cell}
 use Rattle.job_format.specs.Frames.{wide}
 use Rattle.job.specs.declared.raw.RawJob.{RawJob}
 use Rattle.job.specs.declared.verified.Job.{Job}
@@ -21,7 +19,3 @@ wide_of b = wide (slice_index b 0) (slice_index b 1)
 
 abbrev pub cell_held : CellBody → Cell
 cell_held c = record { ty = c.head.ty; flags = c.head.flags; mark = c.head.mark; parts = map wide_of c.parts.now }
-
--- why a cell is turned down, where there are n cells
-abbrev pub fault_of : ℕ → Cell → Option Refusal
-fault_of n c = cond (each (λ p. nat_lt p n) c.parts) (cond (well_formed c) None (Some BadForm)) (Some NoValue)

@@ -2,8 +2,8 @@ ghost use Rattle.std.specs.Prelude.{◌≡◌, ◌≤◌, length, nat_lt, slice_
 ghost use Rattle.values.specs.Cells.{each};
 ghost use Rattle.std.specs.Result.{result_err};
 ghost use Rattle.job_format.specs.Limits.{cell_bytes};
-ghost use Rattle.job_format.specs.Bodies.{cell_in};
-ghost use Rattle.job.specs.Held.{cell_held, fault_of};
+ghost use Rattle.job_format.specs.Bodies.{cell_in, fault_of};
+ghost use Rattle.job.specs.Held.{cell_held};
 
 use crate::bodies::{eight_at, two_at};
 use crate::limits::CELL_BYTES;

@@ -45,6 +45,10 @@ bodies t (r ∷ rs) = cond (r.tag == t) (r.body ∷ bodies t rs) (bodies t rs)
 abbrev pub cell_sound : ℕ → List ℕ → Bool
 cell_sound n b = each (λ p. nat_lt p n) (cell_in b).parts && well_formed (cell_in b)
 
+-- why a cell is turned down, where there are n cells
+abbrev pub fault_of : ℕ → Cell → Option Refusal
+fault_of n c = cond (each (λ p. nat_lt p n) c.parts) (cond (well_formed c) None (Some BadForm)) (Some NoValue)
+
 -- why the cell in a body is turned down, where there are n cells
 abbrev pub cell_fault_lem : ℕ → List ℕ → Option Refusal
-cell_fault_lem n b = cond (each (λ p. nat_lt p n) (cell_in b).parts) (cond (well_formed (cell_in b)) None (Some BadForm)) (Some NoValue)
+cell_fault_lem n b = fault_of n (cell_in b)

@@ -1,6 +1,6 @@
 use Rattle.std.proofs.Common.{sym, ap, ◌∙◌, rules}
 use Rattle.std.proofs.lemmas.Result.{err_from_is_err_and}
-use Rattle.job.specs.Held.{fault_of}
+use Rattle.job_format.specs.Bodies.{fault_of}
 use Rattle.job.specs.declared.fault.JobFault.TheVariants.{Cell}
 use Rattle.job.proofs.Results.{no_error, error_of}
 use Rattle.job.proofs.Passes.{cell_long, bad_cell, good_cell, no_cell, sound_all}
