@@ -1,14 +1,18 @@
 -- Laws of `items`. Assumes nothing.
-use Rattle.std.proofs.Common.{◌≡◌, ℕ, zero, suc, ◌+◌, ◌-◌, ◌<◌, ◌≤◌, true, false, List, [], ◌∷◌, length, get_or, take, drop, sym, refl, ap, ◌∙◌, subst, ⊎_elim, arith, drop-cons}
-use Rattle.std.proofs.lemmas.List.{drop_all}
+use Rattle.std.proofs.Common.{◌≡◌, ◌≢◌, ◌⊎◌, ℕ, zero, suc, ◌+◌, ◌-◌, ◌<◌, ◌≤◌, true, false, List, [], ◌∷◌, Some, None, Option, MatchOption, length, get_or, take, drop, sym, refl, ap, ◌∙◌, subst, ⊎_elim, arith, drop-cons, length-drop}
+use Rattle.std.specs.List.{AllWithin, HoldsAt}
+use Rattle.std.proofs.lemmas.List.{drop_all, take_all, get_or-drop}
 use Rattle.std.proofs.lemmas.Bool.{cases_lt, true≢false}
 use Rattle.std.proofs.lemmas.Bool.Decides.{nat_tests}
-use Rattle.grammar.specs.Lexed.{Ahead}
+use Rattle.grammar.specs.Lexed.{Ahead, Starts}
 use Rattle.grammar.specs.Items.{Item, word, at, Role, space, mark, letter, role, is_letter_lem, starts_word, grown, placed, items, from}
 
 pub over : (s : List ℕ) (i : ℕ) → length s ≤ i → from s i ≡ []
 unfolding items
 over s i h = ap (items i) (drop_all i s h)
+
+pub past_end : (s : List ℕ) (i : ℕ) → (length s < i) ⊎ (length s < length s) → from s i ≡ []
+past_end s i h = over s i (⊎_elim (λ (h : length s < i). omega arith) (λ (h : length s < length s). omega arith) h)
 
 pub step : (s : List ℕ) (i : ℕ) → i < length s → from s i ≡ placed (role (get_or s i 0)) i (get_or s i 0) (starts_word (drop (suc i) s)) (from s (suc i))
 unfolding items
@@ -22,6 +26,59 @@ at_mark s i b m h e r =
     step s i h
     ∙ ap (λ b. placed (role b) i b (starts_word (drop (suc i) s)) (from s (suc i))) e
     ∙ ap (λ r. placed r i b (starts_word (drop (suc i) s)) (from s (suc i))) r
+
+-- n spaces
+spaces : (n : ℕ) (s : List ℕ) (i : ℕ) → i + n ≤ length s → ((k : ℕ) → i ≤ k → k < i + n → get_or s k 0 ≡ 32) → from s i ≡ from s (i + n)
+spaces zero s i h all = let e : i ≡ i + 0 = omega arith in ap (from s) e
+spaces (suc n) s i h all =
+    let e : suc i + n ≡ i + suc n = omega arith in
+    at_space s i (omega arith) (all i (omega arith) (omega arith)) ∙ spaces n s (suc i) (omega arith) (λ k a b. all k (omega arith) (omega arith)) ∙ ap (from s) e
+
+-- a slice from i on
+pub rest_of : (s : List ℕ) (i : ℕ) → take (length s - i) (drop i s) ≡ drop i s
+rest_of s i = take_all (length s - i) (drop i s) (omega (arith, length-drop i s))
+
+within_rest : (s : List ℕ) (i n : ℕ) (P : ℕ → Type 0) → AllWithin P (drop i s) 0 n → (k : ℕ) → i ≤ k → k < i + n → P (get_or s k 0)
+within_rest s i n P all k a b =
+    let e : i + (k - i) ≡ k = omega arith in
+    subst P (get_or-drop i s (k - i) 0 ∙ ap (λ k. get_or s k 0) e) (all (k - i) 0 (omega arith) (omega arith))
+
+-- what a search finds in what follows i
+abbrev pub Found : List ℕ → ℕ → (ℕ → Type 0) → (ℕ → Type 0) → Option ℕ → Type 0
+Found s i Yes No r = MatchOption r (AllWithin No (drop i s) 0 (length (drop i s))) (λ n. (n < length (drop i s)) × HoldsAt Yes (drop i s) n × AllWithin No (drop i s) 0 n)
+
+all_found : (s : List ℕ) (i : ℕ) (No : ℕ → Type 0) → i ≤ length s → AllWithin No (drop i s) 0 (length (drop i s)) → (k : ℕ) → i ≤ k → k < length s → No (get_or s k 0)
+all_found s i No h all k a b = within_rest s i (length (drop i s)) No all k a (omega (arith, length-drop i s))
+
+pub no_start : (s : List ℕ) (i : ℕ) (r : Option ℕ) → i ≤ length s → Found s i (λ b. b ≢ 32) (λ b. b ≡ 32) r → r ≡ None → from s i ≡ []
+no_start s i r h found e =
+    let end : i + (length s - i) ≡ length s = omega arith in
+    let all = all_found s i (λ b. b ≡ 32) h (subst (Found s i (λ b. b ≢ 32) (λ b. b ≡ 32)) e found) in
+    spaces (length s - i) s i (omega arith) (λ k a b. all k a (omega arith)) ∙ ap (from s) end ∙ over s (length s) (omega arith)
+
+pub starts_at : (s : List ℕ) (i : ℕ) (r : Option ℕ) (n : ℕ) → i ≤ length s → Found s i (λ b. b ≢ 32) (λ b. b ≡ 32) r → r ≡ Some n → Starts s i (i + n)
+starts_at s i r n h found e =
+    let f = subst (Found s i (λ b. b ≢ 32) (λ b. b ≡ 32)) e found in
+    let long = length-drop i s in
+    record {
+      on = omega arith;
+      within = omega (arith, f.0);
+      same_items = spaces n s i (omega (arith, f.0)) (within_rest s i n (λ b. b ≡ 32) f.2);
+      no_space = subst (λ b. b ≢ 32) (get_or-drop i s n 0) (f.1 0);
+    }
+
+-- the letters of a word, after its first
+abbrev pub IsLetter : ℕ → Type 0
+IsLetter b = is_letter_lem (role b) ≡ true
+
+abbrev pub NoLetter : ℕ → Type 0
+NoLetter b = is_letter_lem (role b) ≡ false
+
+pub letters_end : (s : List ℕ) (i : ℕ) (r : Option ℕ) (n : ℕ) → Found s (i + 1) NoLetter IsLetter r → r ≡ Some n → (k : ℕ) → i < k → k < i + 1 + n → is_letter_lem (role (get_or s k 0)) ≡ true
+letters_end s i r n found e k a b = within_rest s (i + 1) n IsLetter (subst (Found s (i + 1) NoLetter IsLetter) e found).2 k (omega arith) b
+
+pub letters_on : (s : List ℕ) (i : ℕ) (r : Option ℕ) → i < length s → Found s (i + 1) NoLetter IsLetter r → r ≡ None → (k : ℕ) → i < k → k < length s → is_letter_lem (role (get_or s k 0)) ≡ true
+letters_on s i r h found e k a b = all_found s (i + 1) IsLetter (omega arith) (subst (Found s (i + 1) NoLetter IsLetter) e found) k (omega arith) b
 
 pub letter_role : (r : Role) → is_letter_lem r ≡ true → r ≡ letter
 letter_role space e = absurd (true≢false (sym e))

@@ -12,7 +12,7 @@ use Rattle.grammar.proofs.Theory.{on_some, takes, takes_bars, valid_taken, taken
 abbrev int : List ℕ
 int = codes "int"
 
-int_bare : class int ≡ Bare
+int_bare : class int ≡ Some Bare
 unfolding class known
 int_bare = refl
 

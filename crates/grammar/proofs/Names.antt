@@ -1,34 +1,51 @@
 -- The word and the class that the reader finds are those of the grammar. Assumes nothing.
-use Rattle.std.proofs.Common.{◌≡◌, ℕ, nat_eq, suc, ◌+◌, ◌-◌, ◌*◌, ◌^◌, ◌<◌, ◌≤◌, Bool, true, false, cond, not, ◌&&◌, leb, ◌⊎◌, List, [], ◌∷◌, ◌++◌, length, get_or, take, drop, Some, None, codes, decimal, Option, sym, refl, ap, ◌∙◌, inl, inr, ⊎_elim, arith, take-append-drop, drop-cons, pow-add, rules}
-use Rattle.std.specs.Char.{is_ascii_digit}
-use Rattle.std.specs.Cmp.Lexicographic.{pointwise}
-use Rattle.std.proofs.lemmas.List.{drop_all}
-use Rattle.std.specs.Str.{bytes_eq, all_ascii_digits}
+use Rattle.std.proofs.Common.{◌≡◌, ℕ, ◌==◌, ◌+◌, ◌-◌, ◌*◌, ◌^◌, ◌<◌, ◌≤◌, Bool, true, false, cond, not, ◌&&◌, ◌||◌, leb, ◌⊎◌, List, [], ◌∷◌, ◌++◌, map, length, get_or, take, drop, Bor, Some, None, Ok, Err, codes, decimal, Option, MatchOption, Result, MatchResult, sym, refl, ap, ◌∙◌, subst, inl, inr, ⊎_elim, arith, take-append-drop, rules}
+use Rattle.std.specs.List.{find}
+use Rattle.std.specs.Option.{option_map}
+use Rattle.std.specs.Result.{OkIff, result_ok}
+use Rattle.std.specs.Str.{bytes_eq, all_ascii_digits, IsUtf8}
+use Rattle.std.specs.Str.Parse.{ParsesUnsigned}
+use Rattle.std.proofs.lemmas.List.{get_or_past}
 use Rattle.std.proofs.lemmas.Slice.Eq.{bytes_eq-Decides}
 use Rattle.std.proofs.lemmas.Fmt.{digits_decimal, digits_value-decimal, length-decimal-le, decimal_nonempty, first_decimal, decimal_digit, decimal-digits_value}
-use Rattle.std.proofs.lemmas.Str.Parse.{IsNumeralModel, numerals_by_fold, tells_all_ascii_digits}
-use Rattle.std.proofs.lemmas.Bool.{and_left, and_right, and_cases, not-false, not_from_true, lt-leb, and_parts, and_from, leb-true, eqb-true, eqb-false, not-true, le-leb, eq-eqb, ne_eqb, not_from_false, cond-true, cond-false, cases_lt}
+use Rattle.std.proofs.lemmas.Str.{IsUtf8-from_ascii}
+use Rattle.std.proofs.lemmas.Str.Parse.{IsNumeralModel, numerals_by_fold, tells_all_ascii_digits, digit_at, not_in_digits, parse_plain}
+use Rattle.std.proofs.lemmas.Bool.{and_left, and_right, and_cases, not-false, not_from_true, and_parts, and_from, or_cases, or_parts, leb-true, eqb-true, eqb-false, not-true, le-leb, eq-eqb, ne_eqb, not_from_false, cond-true, cond-false, cases_lt, true≢false}
 use Rattle.grammar.specs.declared.words.Class.{Class}
-use Rattle.grammar.specs.declared.words.Class.TheVariants.{Bare, One, Two, Many, Dots, Nothing}
 use Rattle.grammar.specs.declared.words.Word.{Word}
 use Rattle.grammar.specs.declared.words.Word.TheVariants.{Host, Custom}
-use Rattle.grammar.specs.Names.{Row, row, table, Listed, Numbered, Means, Called}
+use Rattle.grammar.specs.Names.{Row, row, table, Listed, Numbered, Means, takes, Called}
 use Rattle.grammar.specs.Machine.{class, class_by, known, look_up, number, with_number, numbered, zero_first_lem, is_number, read_on}
 
 own : IsNumeralModel (λ ds. all_ascii_digits ds ≡ true) (read_on 0)
 own = numerals_by_fold _ tells_all_ascii_digits read_on (search rules)
 
+record Number (ds : List ℕ) : Type 0 where
+  some : 0 < length ds
+  plain : zero_first_lem ds ≡ false
+  digits : all_ascii_digits ds ≡ true
+  small : read_on 0 ds < 65536
+
+number_parts : (ds : List ℕ) → is_number ds ≡ true → Number ds
+unfolding is_number
+number_parts ds e =
+    let a = and_parts (leb 1 (length ds)) _ e in
+    let b = and_parts (leb (length ds) 5) _ a.1 in
+    let f = and_parts (not (zero_first_lem ds)) _ b.1 in
+    let g = and_parts (all_ascii_digits ds) (leb (read_on 0 ds) 65535) f.1 in
+    let some : 1 ≤ length ds = leb-true 1 (length ds) a.0 in
+    let small : read_on 0 ds ≤ 65535 = leb-true (read_on 0 ds) 65535 g.1 in
+    record { some = omega (arith, some); plain = not-true _ f.0; digits = g.0; small = omega (arith, small) }
+
+-- digits with no zero in front are the number that they come to, as it is written
+written : (ds : List ℕ) → all_ascii_digits ds ≡ true → 0 < length ds → zero_first_lem ds ≡ false → read_on 0 ds < 65536 → decimal (read_on 0 ds) ≡ ds
+written ds digits some plain small =
+    let front : get_or ds 0 0 ≡ 48 → length ds ≡ 1 = λ z. ⊎_elim (λ x. absurd (eqb-false (get_or ds 0 0) 48 x z)) (λ x. eqb-true (length ds) 1 (not-false _ x)) (and_cases _ _ plain) in
+    decimal-digits_value own ds digits (omega arith) front (omega arith)
+
 -- what is read as a number is that number as it is written, and the other way round
 number_from : (ds : List ℕ) → is_number ds ≡ true → (read_on 0 ds < 65536) × (ds ≡ decimal (read_on 0 ds))
-unfolding is_number
-number_from ds e =
-    let a = and_parts _ _ e in
-    let b = and_parts _ _ a.1 in
-    let f = and_parts _ _ b.1 in
-    let g = and_parts _ _ f.1 in
-    let small = leb-true (read_on 0 ds) 65535 g.1 in
-    let front : get_or ds 0 0 ≡ 48 → length ds ≡ 1 = λ z. ⊎_elim (λ x. absurd (eqb-false (get_or ds 0 0) 48 x z)) (λ x. eqb-true (length ds) 1 (not-false _ x)) (and_cases _ _ (not-true _ f.0)) in
-    (omega arith, sym (decimal-digits_value own ds g.0 (leb-true 1 (length ds) a.0) front (omega arith)))
+number_from ds e = let p = number_parts ds e in (p.small, sym (written ds p.digits p.some p.plain p.small))
 
 number_to : (n : ℕ) → n < 65536 → is_number (decimal n) ≡ true
 unfolding is_number
@@ -38,6 +55,9 @@ number_to n lt =
     (and_from _ _ (le-leb (length (decimal n)) 5 (length-decimal-le 5 n (omega arith) (omega arith) big))
     (and_from _ _ (not_from_false _ (⊎_elim (λ (pos : 0 < n). and_left _ _ (ne_eqb (get_or (decimal n) 0 0) 48 (let f = first_decimal n pos big in λ z. omega arith))) (λ (z : n ≤ 0). let q : n ≡ 0 = omega arith in and_right _ _ (not_from_true _ (eq-eqb (length (decimal n)) 1 (ap (λ k. length (decimal k)) q ∙ ap length (decimal_digit 0 (omega arith)))))) (cases_lt 0 n)))
     (and_from _ _ (digits_decimal own n big) (le-leb (read_on 0 (decimal n)) 65535 (let v = digits_value-decimal own n big in omega arith)))))
+
+numeral : (ds : List ℕ) → all_ascii_digits ds ≡ true → 0 < length ds → zero_first_lem ds ≡ false → read_on 0 ds < 65536 → is_number ds ≡ true
+numeral ds digits some plain small = ap is_number (sym (written ds digits some plain small)) ∙ number_to (read_on 0 ds) small
 
 number_is : (n : ℕ) → n < 65536 → number (decimal n) ≡ Some n
 number_is n lt = let big : n < 2 ^ 64 = omega arith in cond-true (is_number (decimal n)) (Some (read_on 0 (decimal n))) None (number_to n lt) ∙ ap Some (digits_value-decimal own n big)
@@ -105,97 +125,77 @@ pub known_means : (w : List ℕ) (x : Word) → known w ≡ Some x → Means w x
 unfolding known
 known_means w x e = ⊎_elim inl (λ h. inr (numbered_from w x h)) (found w x (numbered w) table e)
 
-pub called : (w : List ℕ) (c : Class) → Called w c → class w ≡ c
+pub called : (w : List ℕ) (c : Class) → Called w c → class w ≡ Some c
 unfolding class
-called w c h = ap class_by (means_known w h.0 h.1) ∙ h.2
+called w c h = ap class_by (means_known w h.0 h.1) ∙ ap Some h.2
 
-meant : (w : List ℕ) (c : Class) → (c ≡ Nothing → ⊥) → class w ≡ c → Called w c
+pub meant : (w : List ℕ) (c : Class) → class w ≡ Some c → Called w c
 unfolding class
-meant w c some e = go (known w) refl e
+meant w c e = go (known w) refl e
   where
-    go : (o : Option Word) → known w ≡ o → class_by o ≡ c → Called w c
-    go (Some x) k h = (x, known_means w x k, h)
-    go None k h = absurd (some (sym h))
-
-apart : (c d : Class) → (rank : Class → ℕ) → (rank c ≡ rank d → ⊥) → c ≡ d → ⊥
-apart c d rank ne e = ne (ap rank e)
-
-abbrev rank : Class → ℕ
-rank Bare = 1
-rank One = 1
-rank Two = 1
-rank Many = 1
-rank Dots = 1
-rank Nothing = 0
-
-pub to_bare : (w : List ℕ) → class w ≡ Bare → Called w Bare
-to_bare w e = meant w Bare (apart Bare Nothing rank (λ h. omega arith)) e
-
-pub to_one : (w : List ℕ) → class w ≡ One → Called w One
-to_one w e = meant w One (apart One Nothing rank (λ h. omega arith)) e
-
-pub to_two : (w : List ℕ) → class w ≡ Two → Called w Two
-to_two w e = meant w Two (apart Two Nothing rank (λ h. omega arith)) e
-
-pub to_many : (w : List ℕ) → class w ≡ Many → Called w Many
-to_many w e = meant w Many (apart Many Nothing rank (λ h. omega arith)) e
-
-pub to_dots : (w : List ℕ) → class w ≡ Dots → Called w Dots
-to_dots w e = meant w Dots (apart Dots Nothing rank (λ h. omega arith)) e
+    go : (o : Option Word) → known w ≡ o → class_by o ≡ Some c → Called w c
+    go (Some x) k h = let same : takes x ≡ c = cc in (x, known_means w x k, same)
+    go None k h = let z : ◌≡◌ {A = ℕ} 0 1 = cc in absurd (omega arith)
 
 -- what `number_of` finds on its way
-and_of : (x y : Bool) → x ≡ true → (x && y) ≡ y
-and_of x y e = ap (λ b. b && y) e
+not_number : (ds : List ℕ) → (is_number ds ≡ true → ⊥) → None ≡ number ds
+not_number ds h = go (is_number ds) refl
+  where
+    go : (b : Bool) → is_number ds ≡ b → None ≡ number ds
+    go true e = absurd (h e)
+    go false e = sym (cond-false (is_number ds) (Some (read_on 0 ds)) None e)
 
-pub short : (ds : List ℕ) → length ds < 1 → is_number ds ≡ false
-unfolding is_number
-short ds h = and_left _ _ (lt-leb 1 (length ds) h)
+pub padded : (ds : List ℕ) → (get_or ds 0 0 == 43 || zero_first_lem ds) ≡ true → None ≡ number ds
+padded ds e =
+    not_number ds (λ n.
+    let p = number_parts ds n in
+    ⊎_elim (λ plus. not_in_digits own ds 43 p.digits (λ r. omega (arith, r.0)) 0 p.some (eqb-true (get_or ds 0 0) 43 plus)) (λ z. true≢false (sym z ∙ p.plain)) (or_cases _ _ e))
 
-pub long : (ds : List ℕ) → 5 < length ds → is_number ds ≡ false
-unfolding is_number
-long ds h = and_right _ _ (and_left _ _ (lt-leb (length ds) 5 h))
+pub no_text : {T E : Type 0} (ds : List ℕ) (r : Result T E) (P : T → Type 0) (Q : E → Type 0) → MatchResult r P (λ e. ¬ (IsUtf8 ds) × Q e) → None ≡ result_ok r → None ≡ number ds
+no_text ds (Ok t) P Q h e = let z : ◌≡◌ {A = ℕ} 0 1 = cc in absurd (omega arith)
+no_text ds (Err x) P Q h e =
+    not_number ds (λ n.
+    let p = number_parts ds n in
+    h.0 (IsUtf8-from_ascii ds (λ i. ⊎_elim (λ lt. let r = digit_at ds i (own.to ds p.digits) lt in omega (arith, r.1)) (λ past. let z = get_or_past ds i 0 past in omega arith) (cases_lt i (length ds)))))
 
-pub leading : (ds : List ℕ) → zero_first_lem ds ≡ true → is_number ds ≡ false
-unfolding is_number
-leading ds h = and_right (leb 1 (length ds)) _ (and_right (leb (length ds) 5) _ (and_left (not (zero_first_lem ds)) (all_ascii_digits ds && leb (read_on 0 ds) 65535) (not_from_true (zero_first_lem ds) h)))
+pub text_of : {E : Type 0} (ds : List ℕ) (r : Result (Bor (List ℕ)) E) (t : Bor (List ℕ)) (P : Type 0) (Q : E → Type 0) → MatchResult r (λ s. (s.now ≡ ds) × P) Q → Some t ≡ result_ok r → t.now ≡ ds
+text_of ds (Ok s) t P Q h e = let same : t ≡ s = cc in ap (λ s. s.now) same ∙ h.0
+text_of ds (Err x) t P Q h e = let z : ◌≡◌ {A = ℕ} 0 1 = cc in absurd (omega arith)
 
-pub no_digit : (ds : List ℕ) → all_ascii_digits ds ≡ false → is_number ds ≡ false
-unfolding is_number
-no_digit ds h = and_right (leb 1 (length ds)) _ (and_right (leb (length ds) 5) _ (and_right (not (zero_first_lem ds)) _ (and_left (all_ascii_digits ds) (leb (read_on 0 ds) 65535) h)))
+pub parsed : {E : Type 0} (ds t : List ℕ) (r : Result ℕ E) (o : Option ℕ) → t ≡ ds → ParsesUnsigned 16 10 t r → (get_or ds 0 0 == 43 || zero_first_lem ds) ≡ false → o ≡ result_ok r → o ≡ number ds
+parsed {E} ds t r o q p plain e = e ∙ go r (parse_plain own 16 ds r (subst (λ t. ParsesUnsigned 16 10 t r) q p) (λ z. eqb-false (get_or ds 0 0) 43 (or_parts _ _ plain).0 z))
+  where
+    go : (r : Result ℕ E) → OkIff r ((all_ascii_digits ds ≡ true) × (0 < length ds) × (read_on 0 ds < 2 ^ 16)) (read_on 0 ds) → result_ok r ≡ number ds
+    go (Ok n) h = ap Some h.1 ∙ sym (cond-true (is_number ds) (Some (read_on 0 ds)) None (numeral ds h.0.0 h.0.1 (or_parts _ _ plain).1 h.0.2))
+    go (Err x) h = not_number ds (λ n. let p = number_parts ds n in h (p.digits, p.some, p.small))
 
-pub well : (ds : List ℕ) → 1 ≤ length ds → length ds ≤ 5 → zero_first_lem ds ≡ false → all_ascii_digits ds ≡ true → is_number ds ≡ leb (read_on 0 ds) 65535
-unfolding is_number
-well ds a b f g = and_of _ _ (le-leb 1 (length ds) a) ∙ and_of _ _ (le-leb (length ds) 5 b) ∙ and_of _ _ (not_from_false _ f) ∙ and_of _ _ g
+-- a search among spelled words is a look-up in the rows
+abbrev pub spelled : List ℕ → Bor (List ℕ) × Word → Bool
+spelled w p = bytes_eq w p.0.now
 
-pub digit_fails : (ds : List ℕ) (i : ℕ) → i < length ds → is_ascii_digit (get_or ds i 0) ≡ false → all_ascii_digits ds ≡ all_ascii_digits (drop i ds) → all_ascii_digits ds ≡ false
-digit_fails ds i lt no_one e = e ∙ ap all_ascii_digits (drop-cons ds i 0 lt) ∙ and_left (is_ascii_digit (get_or ds i 0)) (all_ascii_digits (drop (suc i) ds)) no_one
+pub searched : (w : List ℕ) (l : List (Bor (List ℕ) × Word)) → look_up w (map (λ p. row p.0.now p.1) l) None ≡ option_map (λ p. p.1) (find (spelled w) l)
+searched w [] = refl
+searched w (q ∷ l) = go (spelled w q) (searched w l)
+  where
+    go : (b : Bool) → look_up w (map (λ p. row p.0.now p.1) l) None ≡ option_map (λ p. p.1) (find (spelled w) l) → cond b (Some q.1) (look_up w (map (λ p. row p.0.now p.1) l) None) ≡ option_map (λ p. p.1) (cond b (Some q) (find (spelled w) l))
+    go true h = refl
+    go false h = h
 
-pub digit_more : (ds : List ℕ) (i n : ℕ) → i < length ds → is_ascii_digit (get_or ds i 0) ≡ true → get_or ds i 0 ≤ 57 → n < 10 ^ i → all_ascii_digits ds ≡ all_ascii_digits (drop i ds) → read_on 0 ds ≡ read_on n (drop i ds) → (10 * n + (get_or ds i 0 - 48) < 10 ^ (i + 1)) × (all_ascii_digits ds ≡ all_ascii_digits (drop (i + 1) ds)) × (read_on 0 ds ≡ read_on (10 * n + (get_or ds i 0 - 48)) (drop (i + 1) ds))
-digit_more ds i n lt yes-one le small e v =
-    let one : suc i ≡ i + 1 = omega arith in (
-      omega (arith, pow-add 10 i 1),
-      e ∙ ap all_ascii_digits (drop-cons ds i 0 lt) ∙ and_of (is_ascii_digit (get_or ds i 0)) (all_ascii_digits (drop (suc i) ds)) yes-one ∙ ap (λ k. all_ascii_digits (drop k ds)) one,
-      v ∙ ap (read_on n) (drop-cons ds i 0 lt) ∙ ap (λ k. read_on (10 * n + (get_or ds i 0 - 48)) (drop k ds)) one,
-    )
+pub spelled_is : (w : List ℕ) (l : List (Bor (List ℕ) × Word)) (o : Option (Bor (Bor (List ℕ) × Word))) (p : Bor (Bor (List ℕ) × Word)) → option_map (λ x. x.now) o ≡ find (spelled w) l → o ≡ Some p → Some p.now.1 ≡ look_up w (map (λ p. row p.0.now p.1) l) None
+spelled_is w l o p h e = ap (λ o. option_map (λ p. p.1) (option_map (λ x. x.now) o)) (sym e) ∙ ap (option_map (λ p. p.1)) h ∙ sym (searched w l)
 
-pub no_number : (ds : List ℕ) → is_number ds ≡ false → number ds ≡ None
-no_number ds e = cond-false (is_number ds) (Some (read_on 0 ds)) None e
+pub unspelled : (w : List ℕ) (l : List (Bor (List ℕ) × Word)) (o : Option (Bor (Bor (List ℕ) × Word))) → option_map (λ x. x.now) o ≡ find (spelled w) l → o ≡ None → None ≡ look_up w (map (λ p. row p.0.now p.1) l) None
+unspelled w l o h e = ap (λ o. option_map (λ p. p.1) (option_map (λ x. x.now) o)) (sym e) ∙ ap (option_map (λ p. p.1)) h ∙ sym (searched w l)
 
-digits_read : (ds : List ℕ) (i n : ℕ) → length ds ≤ i → 1 ≤ length ds → length ds ≤ 5 → zero_first_lem ds ≡ false → all_ascii_digits ds ≡ all_ascii_digits (drop i ds) → read_on 0 ds ≡ read_on n (drop i ds) → (is_number ds ≡ leb n 65535) × (read_on 0 ds ≡ n)
-digits_read ds i n past a b z e v =
-    let none = drop_all i ds past in
-    let value = v ∙ ap (read_on n) none in
-    (well ds a b z (e ∙ ap all_ascii_digits none) ∙ ap (λ k. leb k 65535) value, value)
+pub classed : (w : List ℕ) (o : Option Word) (r : Option Class) → o ≡ known w → r ≡ class_by o → r ≡ class w
+unfolding class
+classed w o r e h = h ∙ ap class_by e
 
-module _ (ds : List ℕ) (i n : ℕ) (past : length ds ≤ i) (a : 1 ≤ length ds) (b : length ds ≤ 5) (z : zero_first_lem ds ≡ false) (e : all_ascii_digits ds ≡ all_ascii_digits (drop i ds)) (v : read_on 0 ds ≡ read_on n (drop i ds)) where
-  pub too_large : 65535 < n → None ≡ number ds
-  too_large h = sym (no_number ds ((digits_read ds i n past a b z e v).0 ∙ lt-leb n 65535 h))
-
-  pub digits_end : n ≤ 65535 → Some n ≡ number ds
-  digits_end h =
-      let r = digits_read ds i n past a b z e v in
-      sym (cond-true (is_number ds) (Some (read_on 0 ds)) None (r.0 ∙ le-leb n 65535 h) ∙ ap Some r.1)
-
--- `==` of two slices, of which the second is v
-pub tested : (w v : List ℕ) {u : List ℕ} {r b : Bool} → u ≡ v → r ≡ pointwise nat_eq w u → r ≡ b → bytes_eq w v ≡ b
-tested w v s m e = sym (ap (bytes_eq w) s) ∙ sym m ∙ e
+pub looked_up : (w : List ℕ) (rs : List Row) (d o r : Option Word) {Q : Type 0} → o ≡ look_up w rs None → MatchOption o Q (λ x. r ≡ Some x) → (Q → r ≡ d) → r ≡ look_up w rs d
+looked_up w [] d None r e h missed = missed h
+looked_up w [] d (Some x) r e h missed = let z : ◌≡◌ {A = ℕ} 0 1 = cc in absurd (omega arith)
+looked_up w (row v x ∷ rs) d o r {Q} e h missed = go (bytes_eq w v) e (λ e. looked_up w rs d o r e h missed)
+  where
+    go : (b : Bool) → o ≡ cond b (Some x) (look_up w rs None) → (o ≡ look_up w rs None → r ≡ look_up w rs d) → r ≡ cond b (Some x) (look_up w rs d)
+    go true e rec = subst (λ o. MatchOption o Q (λ x. r ≡ Some x)) e h
+    go false e rec = rec e

@@ -2,12 +2,12 @@
 use Rattle.std.proofs.Common.{◌≡◌, ℕ, Bool, true, false, cond, ◌⊎◌, List, [], ◌∷◌, Some, None, Option, sym, refl, ap, ◌∙◌, subst, inl, inr, ⊎_elim}
 use Rattle.std.proofs.lemmas.Bool.{true≢false}
 use Rattle.grammar.specs.declared.words.Class.{Class}
-use Rattle.grammar.specs.declared.words.Class.TheVariants.{Bare, One, Two, Many, Dots, Nothing}
+use Rattle.grammar.specs.declared.words.Class.TheVariants.{Bare, One, Two, Many, Dots}
 use Rattle.grammar.specs.declared.stages.Stage.{Stage}
 use Rattle.grammar.specs.declared.stages.Stage.TheVariants.{Only, Key, Value, First, Second, Later}
 use Rattle.grammar.specs.Items.{Item, word, bar, left, right, comma, calm, still}
 use Rattle.grammar.specs.Grammar.{Name, Text, last, join, Alt, alone, one, two, none, some, run, More, end, also, text, alt, more, Valid}
-use Rattle.grammar.proofs.Names.{called, to_bare, to_one, to_two, to_many, to_dots}
+use Rattle.grammar.proofs.Names.{called, meant}
 use Rattle.grammar.specs.Machine.{class, txt, bars, opens, arg, rest, shut, Stack, named, begins, dotted, argues, goes, closes, barred, opened, feed, ends, after, may_close, may_comma}
 
 abbrev pub on_some : (Stack → Bool) → Option Stack → Bool
@@ -60,7 +60,7 @@ text_head (join a t) r = alt_head a (bar ∷ text t r)
 
 undotted : (w : List ℕ) → Name w → (a b : Option Stack) → dotted (class w) a b ≡ b
 undotted w n a b =
-    let at : (c : Class) → class w ≡ c → dotted c a b ≡ b → dotted (class w) a b ≡ b = λ c e q. ap (λ c. dotted c a b) e ∙ q in
+    let at : (c : Class) → class w ≡ Some c → dotted (Some c) a b ≡ b → dotted (class w) a b ≡ b = λ c e q. ap (λ c. dotted c a b) e ∙ q in
     ⊎_elim (λ e. at Bare (called w Bare e) refl) (⊎_elim (λ e. at One (called w One e) refl) (⊎_elim (λ e. at Two (called w Two e) refl) (λ e. at Many (called w Many e) refl))) n
 
 arg_word : (st : Stage) (w : List ℕ) → Name w → (r : List Item) (k : Stack) → takes (word w ∷ r) (arg st ∷ k) ≡ takes (word w ∷ r) (txt ∷ rest st ∷ k)
@@ -76,7 +76,7 @@ arg_text st t r k =
     let h = text_head t r in
     ap (λ is. takes is (arg st ∷ k)) h.2 ∙ arg_word st h.0 h.3 h.1 k ∙ ap (λ is. takes is (txt ∷ rest st ∷ k)) (sym h.2)
 
-by_class : (w : List ℕ) (c : Class) → class w ≡ c → (r : List Item) (k : Stack) → takes (word w ∷ r) (txt ∷ k) ≡ on_some (takes r) (named c k)
+by_class : (w : List ℕ) (c : Class) → class w ≡ Some c → (r : List Item) (k : Stack) → takes (word w ∷ r) (txt ∷ k) ≡ on_some (takes r) (named (Some c) k)
 by_class w c e r k = ap (λ c. on_some (takes r) (named c k)) e
 
 more_calm : (m : More) (r : List Item) → calm (more m (right ∷ r))
@@ -145,7 +145,7 @@ abbrev RestL : Stage → (List Item → Type 0) → List Item → Type 0
 RestL Only P is = (r : List Item) × (is ≡ right ∷ r) × P r
 RestL Key P is = (u : Text) × (r : List Item) × (is ≡ comma ∷ text u (right ∷ r)) × P r
 RestL Value P is = (r : List Item) × (is ≡ right ∷ r) × P r
-RestL First P is = ((m : More) × (r : List Item) × (is ≡ more m (right ∷ r)) × P r) ⊎ ((d : List ℕ) × (r : List Item) × (class d ≡ Dots) × (is ≡ comma ∷ word d ∷ right ∷ r) × P r)
+RestL First P is = ((m : More) × (r : List Item) × (is ≡ more m (right ∷ r)) × P r) ⊎ ((d : List ℕ) × (r : List Item) × (class d ≡ Some Dots) × (is ≡ comma ∷ word d ∷ right ∷ r) × P r)
 RestL Second P is = (m : More) × (r : List Item) × (is ≡ more m (right ∷ r)) × P r
 RestL Later P is = (m : More) × (r : List Item) × (is ≡ more m (right ∷ r)) × P r
 
@@ -154,7 +154,7 @@ ArgL Only P is = (t : Text) × (r : List Item) × (is ≡ text t (right ∷ r)) 
 ArgL Key P is = (t u : Text) × (r : List Item) × (is ≡ text t (comma ∷ text u (right ∷ r))) × P r
 ArgL Value P is = (t : Text) × (r : List Item) × (is ≡ text t (right ∷ r)) × P r
 ArgL First P is = ((r : List Item) × (is ≡ right ∷ r) × P r) ⊎ ((t : Text) × (q : List Item) × (is ≡ text t q) × RestL First P q)
-ArgL Second P is = ((d : List ℕ) × (r : List Item) × (class d ≡ Dots) × (is ≡ word d ∷ right ∷ r) × P r) ⊎ ((t : Text) × (m : More) × (r : List Item) × (is ≡ text t (more m (right ∷ r))) × P r)
+ArgL Second P is = ((d : List ℕ) × (r : List Item) × (class d ≡ Some Dots) × (is ≡ word d ∷ right ∷ r) × P r) ⊎ ((t : Text) × (m : More) × (r : List Item) × (is ≡ text t (more m (right ∷ r))) × P r)
 ArgL Later P is = (t : Text) × (m : More) × (r : List Item) × (is ≡ text t (more m (right ∷ r))) × P r
 
 abbrev Lang : Stack → List Item → Type 0
@@ -180,33 +180,33 @@ with_bars a r k (inr h) = (join a h.0, h.1, ap (alt a) h.2, h.3)
 moved : (k : Stack) {is js : List Item} → is ≡ js → Lang k js → Lang k is
 moved k e l = subst (Lang k) (sym e) l
 
-named_one : (w : List ℕ) → class w ≡ One → (k : Stack) (is : List Item) → Lang (opens Only ∷ bars ∷ k) is → Lang (txt ∷ k) (word w ∷ is)
-named_one w e k is (inl b) = with_bars (alone w (inr (inl (to_one w e)))) is k b
-named_one w e k is (inr h) = moved (txt ∷ k) (ap (λ q. word w ∷ q) (h.1 ∙ ap (λ q. left ∷ q) h.2.2)) (with_bars (one w (to_one w e) h.2.0) h.2.1 k h.2.3)
+named_one : (w : List ℕ) → class w ≡ Some One → (k : Stack) (is : List Item) → Lang (opens Only ∷ bars ∷ k) is → Lang (txt ∷ k) (word w ∷ is)
+named_one w e k is (inl b) = with_bars (alone w (inr (inl (meant w One e)))) is k b
+named_one w e k is (inr h) = moved (txt ∷ k) (ap (λ q. word w ∷ q) (h.1 ∙ ap (λ q. left ∷ q) h.2.2)) (with_bars (one w (meant w One e) h.2.0) h.2.1 k h.2.3)
 
-named_two : (w : List ℕ) → class w ≡ Two → (k : Stack) (is : List Item) → Lang (opens Key ∷ bars ∷ k) is → Lang (txt ∷ k) (word w ∷ is)
-named_two w e k is (inl b) = with_bars (alone w (inr (inr (inl (to_two w e))))) is k b
-named_two w e k is (inr h) = moved (txt ∷ k) (ap (λ q. word w ∷ q) (h.1 ∙ ap (λ q. left ∷ q) h.2.3)) (with_bars (two w (to_two w e) h.2.0 h.2.1) h.2.2 k h.2.4)
+named_two : (w : List ℕ) → class w ≡ Some Two → (k : Stack) (is : List Item) → Lang (opens Key ∷ bars ∷ k) is → Lang (txt ∷ k) (word w ∷ is)
+named_two w e k is (inl b) = with_bars (alone w (inr (inr (inl (meant w Two e))))) is k b
+named_two w e k is (inr h) = moved (txt ∷ k) (ap (λ q. word w ∷ q) (h.1 ∙ ap (λ q. left ∷ q) h.2.3)) (with_bars (two w (meant w Two e) h.2.0 h.2.1) h.2.2 k h.2.4)
 
-tupled : (w : List ℕ) → class w ≡ Many → (k : Stack) (is : List Item) → ArgL First (Lang (bars ∷ k)) is → Lang (txt ∷ k) (word w ∷ left ∷ is)
-tupled w e k is (inl h) = moved (txt ∷ k) (ap (λ q. word w ∷ left ∷ q) h.1) (with_bars (none w (to_many w e)) h.0 k h.2)
+tupled : (w : List ℕ) → class w ≡ Some Many → (k : Stack) (is : List Item) → ArgL First (Lang (bars ∷ k)) is → Lang (txt ∷ k) (word w ∷ left ∷ is)
+tupled w e k is (inl h) = moved (txt ∷ k) (ap (λ q. word w ∷ left ∷ q) h.1) (with_bars (none w (meant w Many e)) h.0 k h.2)
 tupled w e k is (inr h) = go h.3
   where
     go : RestL First (Lang (bars ∷ k)) h.1 → Lang (txt ∷ k) (word w ∷ left ∷ is)
-    go (inl m) = moved (txt ∷ k) (ap (λ q. word w ∷ left ∷ q) (h.2 ∙ ap (text h.0) m.2)) (with_bars (some w (to_many w e) h.0 m.0) m.1 k m.3)
-    go (inr d) = moved (txt ∷ k) (ap (λ q. word w ∷ left ∷ q) (h.2 ∙ ap (text h.0) d.3)) (with_bars (run w d.0 (to_many w e) (to_dots d.0 d.2) h.0) d.1 k d.4)
+    go (inl m) = moved (txt ∷ k) (ap (λ q. word w ∷ left ∷ q) (h.2 ∙ ap (text h.0) m.2)) (with_bars (some w (meant w Many e) h.0 m.0) m.1 k m.3)
+    go (inr d) = moved (txt ∷ k) (ap (λ q. word w ∷ left ∷ q) (h.2 ∙ ap (text h.0) d.3)) (with_bars (run w d.0 (meant w Many e) (meant d.0 Dots d.2) h.0) d.1 k d.4)
 
-named_many : (w : List ℕ) → class w ≡ Many → (k : Stack) (is : List Item) → Lang (opens First ∷ bars ∷ k) is → Lang (txt ∷ k) (word w ∷ is)
-named_many w e k is (inl b) = with_bars (alone w (inr (inr (inr (to_many w e))))) is k b
+named_many : (w : List ℕ) → class w ≡ Some Many → (k : Stack) (is : List Item) → Lang (opens First ∷ bars ∷ k) is → Lang (txt ∷ k) (word w ∷ is)
+named_many w e k is (inl b) = with_bars (alone w (inr (inr (inr (meant w Many e))))) is k b
 named_many w e k is (inr h) = moved (txt ∷ k) (ap (λ q. word w ∷ q) h.1) (tupled w e k h.0 h.2)
 
-back_named : (c : Class) (w : List ℕ) → class w ≡ c → (k : Stack) (is : List Item) → Onward is (named c k) → Lang (txt ∷ k) (word w ∷ is)
-back_named Bare w e k is h = with_bars (alone w (inl (to_bare w e))) is k h
-back_named One w e k is h = named_one w e k is h
-back_named Two w e k is h = named_two w e k is h
-back_named Many w e k is h = named_many w e k is h
-back_named Dots w e k is h = absurd h
-back_named Nothing w e k is h = absurd h
+back_named : (c : Option Class) (w : List ℕ) → class w ≡ c → (k : Stack) (is : List Item) → Onward is (named c k) → Lang (txt ∷ k) (word w ∷ is)
+back_named (Some Bare) w e k is h = with_bars (alone w (inl (meant w Bare e))) is k h
+back_named (Some One) w e k is h = named_one w e k is h
+back_named (Some Two) w e k is h = named_two w e k is h
+back_named (Some Many) w e k is h = named_many w e k is h
+back_named (Some Dots) w e k is h = absurd h
+back_named None w e k is h = absurd h
 
 back_txt : (i : Item) (k : Stack) (is : List Item) → Onward is (begins i k) → Lang (txt ∷ k) (i ∷ is)
 back_txt (word w) k is h = back_named (class w) w refl k is h
@@ -215,13 +215,13 @@ back_txt left k is h = absurd h
 back_txt right k is h = absurd h
 back_txt comma k is h = absurd h
 
-dots_or : (c : Class) (w : List ℕ) → class w ≡ c → (k : Stack) (is : List Item) → Onward is (dotted c (Some (shut ∷ k)) (named c (rest Second ∷ k))) → ArgL Second (Lang k) (word w ∷ is)
-dots_or Bare w e k is h = inr (let l = back_named Bare w e (rest Second ∷ k) is h in (l.0, l.3.0, l.3.1, l.2 ∙ ap (text l.0) l.3.2, l.3.3))
-dots_or One w e k is h = inr (let l = back_named One w e (rest Second ∷ k) is h in (l.0, l.3.0, l.3.1, l.2 ∙ ap (text l.0) l.3.2, l.3.3))
-dots_or Two w e k is h = inr (let l = back_named Two w e (rest Second ∷ k) is h in (l.0, l.3.0, l.3.1, l.2 ∙ ap (text l.0) l.3.2, l.3.3))
-dots_or Many w e k is h = inr (let l = back_named Many w e (rest Second ∷ k) is h in (l.0, l.3.0, l.3.1, l.2 ∙ ap (text l.0) l.3.2, l.3.3))
-dots_or Dots w e k is h = inl (w, h.0, e, ap (λ q. word w ∷ q) h.1, h.2)
-dots_or Nothing w e k is h = absurd h
+dots_or : (c : Option Class) (w : List ℕ) → class w ≡ c → (k : Stack) (is : List Item) → Onward is (dotted c (Some (shut ∷ k)) (named c (rest Second ∷ k))) → ArgL Second (Lang k) (word w ∷ is)
+dots_or (Some Bare) w e k is h = inr (let l = back_named (Some Bare) w e (rest Second ∷ k) is h in (l.0, l.3.0, l.3.1, l.2 ∙ ap (text l.0) l.3.2, l.3.3))
+dots_or (Some One) w e k is h = inr (let l = back_named (Some One) w e (rest Second ∷ k) is h in (l.0, l.3.0, l.3.1, l.2 ∙ ap (text l.0) l.3.2, l.3.3))
+dots_or (Some Two) w e k is h = inr (let l = back_named (Some Two) w e (rest Second ∷ k) is h in (l.0, l.3.0, l.3.1, l.2 ∙ ap (text l.0) l.3.2, l.3.3))
+dots_or (Some Many) w e k is h = inr (let l = back_named (Some Many) w e (rest Second ∷ k) is h in (l.0, l.3.0, l.3.1, l.2 ∙ ap (text l.0) l.3.2, l.3.3))
+dots_or (Some Dots) w e k is h = inl (w, h.0, e, ap (λ q. word w ∷ q) h.1, h.2)
+dots_or None w e k is h = absurd h
 
 back_arg : (st : Stage) (i : Item) (k : Stack) (is : List Item) → Onward is (argues st i k) → ArgL st (Lang k) (i ∷ is)
 back_arg Only i k is h = let l = back_txt i (rest Only ∷ k) is h in (l.0, l.3.0, l.2 ∙ ap (text l.0) l.3.1, l.3.2)

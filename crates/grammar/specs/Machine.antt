@@ -1,7 +1,8 @@
 -- What the inner readers do, as a stack of what is still to come. Assumes nothing.
 use Rattle.std.specs.Prelude.{◌≡◌, ℕ, ◌+◌, ◌-◌, ◌*◌, ◌<◌, ◌≤◌, Bool, true, false, cond, not, ◌&&◌, List, [], ◌∷◌, length, take, drop, Some, None, codes, Option, Result, MatchResult, ◌==◌, nat_le, slice_index}
+use Rattle.grammar.specs.declared.fault.Fault.{Fault}
 use Rattle.grammar.specs.declared.words.Class.{Class}
-use Rattle.grammar.specs.declared.words.Class.TheVariants.{Bare, One, Two, Many, Dots, Nothing}
+use Rattle.grammar.specs.declared.words.Class.TheVariants.{Bare, One, Two, Many, Dots}
 use Rattle.grammar.specs.declared.stages.Stage.{Stage}
 use Rattle.grammar.specs.declared.stages.Stage.TheVariants.{Only, Key, Value, First, Second, Later}
 use Rattle.grammar.specs.Items.{Item, word, bar, left, right, comma, Placed, at, from}
@@ -39,11 +40,11 @@ look_up w (row v x ∷ rs) d = cond (bytes_eq w v) (Some x) (look_up w rs d)
 unfoldable pub known : List ℕ → Option Word
 known w = look_up w table (numbered w)
 
-abbrev pub class_by : Option Word → Class
-class_by (Some x) = takes x
-class_by None = Nothing
+abbrev pub class_by : Option Word → Option Class
+class_by (Some x) = Some (takes x)
+class_by None = None
 
-unfoldable pub class : List ℕ → Class
+unfoldable pub class : List ℕ → Option Class
 class w = class_by (known w)
 
 pub data Sym : Type 0 where
@@ -82,13 +83,13 @@ may_comma Second = true
 may_comma Later = true
 
 -- what follows a name of each class
-abbrev pub named : Class → Stack → Option Stack
-named Bare k = Some (bars ∷ k)
-named One k = Some (opens Only ∷ bars ∷ k)
-named Two k = Some (opens Key ∷ bars ∷ k)
-named Many k = Some (opens First ∷ bars ∷ k)
-named Dots k = None
-named Nothing k = None
+abbrev pub named : Option Class → Stack → Option Stack
+named (Some Bare) k = Some (bars ∷ k)
+named (Some One) k = Some (opens Only ∷ bars ∷ k)
+named (Some Two) k = Some (opens Key ∷ bars ∷ k)
+named (Some Many) k = Some (opens First ∷ bars ∷ k)
+named (Some Dots) k = None
+named None k = None
 
 abbrev pub begins : Item → Stack → Option Stack
 begins (word w) k = named (class w) k
@@ -97,13 +98,13 @@ begins left k = None
 begins right k = None
 begins comma k = None
 
-abbrev pub dotted : Class → Option Stack → Option Stack → Option Stack
-dotted Bare a b = b
-dotted One a b = b
-dotted Two a b = b
-dotted Many a b = b
-dotted Dots a b = a
-dotted Nothing a b = b
+abbrev pub dotted : Option Class → Option Stack → Option Stack → Option Stack
+dotted (Some Bare) a b = b
+dotted (Some One) a b = b
+dotted (Some Two) a b = b
+dotted (Some Many) a b = b
+dotted (Some Dots) a b = a
+dotted None a b = b
 
 -- an argument: `]` at once, `...`, or a text
 abbrev pub argues : Stage → Item → Stack → Option Stack
@@ -186,8 +187,8 @@ pub record Reads (s : List ℕ) (i : ℕ) (X : Sym) (e : ℕ) : Type 0 where
 abbrev pub Fails : List ℕ → ℕ → Sym → ℕ → Type 0
 Fails s i X p = (k : List Sym) → fault (length s) (from s i) (X ∷ k) ≡ Some p
 
-abbrev pub Reader : List ℕ → ℕ → Sym → Result ℕ ℕ → Type 0
-Reader s i X r = MatchResult r (Reads s i X) (Fails s i X)
+abbrev pub Reader : List ℕ → ℕ → Sym → Result ℕ Fault → Type 0
+Reader s i X r = MatchResult r (Reads s i X) (λ f. Fails s i X f.byte)
 
 -- an alternative leaves the bars that may follow it
 pub record AltReads (s : List ℕ) (i e : ℕ) : Type 0 where
@@ -195,5 +196,5 @@ pub record AltReads (s : List ℕ) (i e : ℕ) : Type 0 where
   pub within : e ≤ length s
   pub same_fault : (k : List Sym) → fault (length s) (from s i) (txt ∷ k) ≡ fault (length s) (from s e) (bars ∷ k)
 
-abbrev pub AltReader : List ℕ → ℕ → Result ℕ ℕ → Type 0
-AltReader s i r = MatchResult r (AltReads s i) (Fails s i txt)
+abbrev pub AltReader : List ℕ → ℕ → Result ℕ Fault → Type 0
+AltReader s i r = MatchResult r (AltReads s i) (λ f. Fails s i txt f.byte)

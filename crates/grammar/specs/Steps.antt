@@ -1,14 +1,31 @@
--- What the two decisions in an argument mean to the machine. Assumes nothing.
+-- How an argument begins, and what that means to the machine. Assumes nothing.
 use Rattle.std.specs.Prelude.{◌≡◌, ℕ, cond, List, ◌∷◌, Some, None, Option}
+use Rattle.grammar.specs.declared.words.Class.{Class}
+use Rattle.grammar.specs.declared.words.Class.TheVariants.{Bare, One, Two, Many, Dots}
 use Rattle.grammar.specs.declared.tokens.Token.{Token}
 use Rattle.grammar.specs.declared.tokens.Token.TheVariants.{Name, Bar, Open, Close, Comma, End}
 use Rattle.grammar.specs.declared.stages.Stage.{Stage}
 use Rattle.grammar.specs.declared.stages.Entry.{Entry}
 use Rattle.grammar.specs.declared.stages.Entry.TheVariants.{Shut, Dotted, Plain}
-use Rattle.grammar.specs.declared.stages.Follow.{Follow}
-use Rattle.grammar.specs.declared.stages.Follow.TheVariants.{Ends, Goes, Wrong}
 use Rattle.grammar.specs.Items.{word, bar, left, right, comma, Placed}
-use Rattle.grammar.specs.Machine.{txt, arg, rest, shut, Stack, after, feed, ends, fault, or_else}
+use Rattle.grammar.specs.Machine.{class, txt, arg, rest, shut, Stack, feed, ends, fault, or_else}
+
+-- how an argument begins
+abbrev pub entry_by : Option Class → Entry
+entry_by (Some Bare) = Plain
+entry_by (Some One) = Plain
+entry_by (Some Two) = Plain
+entry_by (Some Many) = Plain
+entry_by (Some Dots) = Dotted
+entry_by None = Plain
+
+abbrev pub entry : Token → Entry
+entry (Name w) = entry_by (class w.now)
+entry Bar = Plain
+entry Open = Plain
+entry Close = Shut
+entry Comma = Plain
+entry End = Plain
 
 -- the fault from a token on: it starts at p, the items is follow it, and n is the text's length
 abbrev pub onward : Token → ℕ → ℕ → List Placed → Stack → Option ℕ
@@ -34,8 +51,3 @@ abbrev pub Enters : Entry → Stage → Token → Type 0
 Enters Shut st token = Real token × ((k : Stack) → Same token (arg st ∷ k) (λ p n is. fault n is k))
 Enters Dotted st token = Real token × ((k : Stack) → Same token (arg st ∷ k) (λ p n is. fault n is (shut ∷ k)))
 Enters Plain st token = (k : Stack) → Same token (arg st ∷ k) (λ p n is. onward token p n is (txt ∷ rest st ∷ k))
-
-abbrev pub Follows : Follow → Stage → Token → Type 0
-Follows Ends st token = Real token × ((k : Stack) → Same token (rest st ∷ k) (λ p n is. fault n is k))
-Follows Goes st token = Real token × ((k : Stack) → Same token (rest st ∷ k) (λ p n is. fault n is (arg (after st) ∷ k)))
-Follows Wrong st token = (k : Stack) → Same token (rest st ∷ k) (λ p n is. Some p)

@@ -1,8 +1,9 @@
 // The grammar of annotations: which texts are valid, and where any other goes wrong.
 #![tactic(auto)]
 
+pub mod fault;
 mod readers;
-mod stages;
+pub mod stages;
 pub mod text;
 pub mod tokens;
 pub mod words;

@@ -1,14 +1,15 @@
-// The readers of a text, an alternative and an argument. Each answers the byte after what it read, or the byte of the fault.
+// The readers of a text, an alternative and an argument. Each answers the byte after what it read, or the fault.
 ghost use Rattle.std.specs.Prelude.{◌≡◌, ◌≤◌, length};
-ghost use Rattle.grammar.specs.Machine.{txt, arg, shut, Reader, AltReader};
+ghost use Rattle.grammar.specs.Machine.{txt, arg, Reader, AltReader};
 
-use crate::stages::{Entry, Follow, Stage, entry_of, follow_of, next_stage};
-use crate::tokens::{Token, next_token};
+use crate::fault::Fault;
+use crate::stages::{Entry, Stage, entry_at, next_stage};
+use crate::tokens::{Token, closing, next_token};
 use crate::words::{Class, class_of};
 
 // A text: an alternative, and while a bar follows, another.
 #[cycle(alternative_argument_text_reader)]
-pub(crate) fn text_reader(text: &[u8], at: usize) -> Result<usize, usize>
+pub(crate) fn text_reader(text: &[u8], at: usize) -> Result<usize, Fault>
     requires { at ≤ length text.now }
     ensures { Reader text.now at txt result }
 {
@@ -22,20 +23,20 @@ pub(crate) fn text_reader(text: &[u8], at: usize) -> Result<usize, usize>
 
 // One alternative: a name, and its arguments if a bracket follows.
 #[cycle(alternative_argument_text_reader)]
-fn alternative(text: &[u8], at: usize) -> Result<usize, usize>
+fn alternative(text: &[u8], at: usize) -> Result<usize, Fault>
     requires { at ≤ length text.now }
     ensures { AltReader text.now at result }
 {
     let name = next_token(text, at);
     let Token::Name(word) = name.token else {
-        return Err(name.start);
+        return Err(Fault { byte: name.start });
     };
     let stage = match class_of(word) {
-        Class::Bare => return Ok(name.end),
-        Class::One => Stage::Only,
-        Class::Two => Stage::Key,
-        Class::Many => Stage::First,
-        Class::Dots | Class::Nothing => return Err(name.start),
+        Some(Class::Bare) => return Ok(name.end),
+        Some(Class::One) => Stage::Only,
+        Some(Class::Two) => Stage::Key,
+        Some(Class::Many) => Stage::First,
+        Some(Class::Dots) | None => return Err(Fault { byte: name.start }),
     };
     let mark = next_token(text, name.end);
     match mark.token {
@@ -46,33 +47,21 @@ fn alternative(text: &[u8], at: usize) -> Result<usize, usize>
 
 // One argument, and what follows up to the closing bracket.
 #[cycle(alternative_argument_text_reader)]
-fn argument(text: &[u8], at: usize, stage: Stage) -> Result<usize, usize>
+fn argument(text: &[u8], at: usize, stage: Stage) -> Result<usize, Fault>
     requires { at ≤ length text.now }
     ensures { Reader text.now at (arg stage) result }
 {
     let first = next_token(text, at);
-    match entry_of(stage, first.token) {
+    match entry_at(stage, first.token) {
         Entry::Shut => return Ok(first.end),
         Entry::Dotted => return closing(text, first.end),
         Entry::Plain => {}
     }
     let end = text_reader(text, at)?;
     let mark = next_token(text, end);
-    match follow_of(stage, mark.token) {
-        Follow::Ends => Ok(mark.end),
-        Follow::Goes => argument(text, mark.end, next_stage(stage)),
-        Follow::Wrong => Err(mark.start),
-    }
-}
-
-// The closing bracket after `...`.
-fn closing(text: &[u8], at: usize) -> Result<usize, usize>
-    requires { at ≤ length text.now }
-    ensures { Reader text.now at shut result }
-{
-    let mark = next_token(text, at);
     match mark.token {
-        Token::Close => Ok(mark.end),
-        _ => Err(mark.start),
+        Token::Close if stage.may_close() => Ok(mark.end),
+        Token::Comma if stage.may_comma() => argument(text, mark.end, next_stage(stage)),
+        _ => Err(Fault { byte: mark.start }),
     }
 }

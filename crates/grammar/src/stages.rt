@@ -1,13 +1,13 @@
 // The decisions inside brackets: how an argument begins, and what may follow it.
 ghost use Rattle.std.specs.Prelude.{◌≡◌};
-ghost use Rattle.grammar.specs.Machine.{after};
-ghost use Rattle.grammar.specs.Steps.{Enters, Follows};
+ghost use Rattle.grammar.specs.Machine.{after, may_close, may_comma};
+ghost use Rattle.grammar.specs.Steps.{Enters, entry};
 
 use crate::tokens::Token;
 use crate::words::{Class, class_of};
 
 // Which argument comes next: the only one, a key, a value, or a tuple's first, second or later one.
-#[derive(Clone, Copy, PartialEq)]
+#[derive(Clone, Copy, PartialEq, Eq)]
 pub enum Stage {
     Only,
     Key,
@@ -17,7 +17,7 @@ pub enum Stage {
     Later,
 }
 
-// How an argument begins: with the closing bracket of `tuple[]`, with `...`, or as a text.
+// How an argument begins: with a closing bracket, with `...`, or as a text.
 #[derive(Clone, Copy)]
 pub enum Entry {
     Shut,
@@ -25,12 +25,20 @@ pub enum Entry {
     Plain,
 }
 
-// What follows an argument: the closing bracket, a comma with another argument, or a fault.
-#[derive(Clone, Copy)]
-pub enum Follow {
-    Ends,
-    Goes,
-    Wrong,
+impl Stage {
+    // Whether the closing bracket may follow the argument.
+    pub(crate) fn may_close(self) -> bool
+        ensures { result ≡ may_close self }
+    {
+        !matches!(self, Stage::Key)
+    }
+
+    // Whether a comma and another argument may follow it.
+    pub(crate) fn may_comma(self) -> bool
+        ensures { result ≡ may_comma self }
+    {
+        !matches!(self, Stage::Only | Stage::Value)
+    }
 }
 
 pub(crate) fn next_stage(stage: Stage) -> Stage
@@ -43,37 +51,27 @@ pub(crate) fn next_stage(stage: Stage) -> Stage
     }
 }
 
-pub(crate) fn entry_of(stage: Stage, token: Token<'_>) -> Entry
-    ensures { Enters result stage token.entry }
+// How the argument that begins with this token begins.
+pub fn entry_of(token: Token<'_>) -> Entry
+    ensures { result ≡ entry token.entry }
 {
     match token {
-        Token::Close => match stage {
-            Stage::First => Entry::Shut,
-            _ => Entry::Plain,
-        },
-        Token::Name(word) => match stage {
-            Stage::Second => match class_of(word) {
-                Class::Dots => Entry::Dotted,
-                _ => Entry::Plain,
-            },
+        Token::Close => Entry::Shut,
+        Token::Name(word) => match class_of(word) {
+            Some(Class::Dots) => Entry::Dotted,
             _ => Entry::Plain,
         },
         _ => Entry::Plain,
     }
 }
 
-pub(crate) fn follow_of(stage: Stage, token: Token<'_>) -> Follow
-    ensures { Follows result stage token.entry }
+// The same where only `tuple[]` is shut at once, and the dots stand second.
+pub(crate) fn entry_at(stage: Stage, token: Token<'_>) -> Entry
+    ensures { Enters result stage token.entry }
 {
-    match token {
-        Token::Close => match stage {
-            Stage::Key => Follow::Wrong,
-            _ => Follow::Ends,
-        },
-        Token::Comma => match stage {
-            Stage::Only | Stage::Value => Follow::Wrong,
-            _ => Follow::Goes,
-        },
-        _ => Follow::Wrong,
+    match entry_of(token) {
+        Entry::Shut if stage == Stage::First => Entry::Shut,
+        Entry::Dotted if stage == Stage::Second => Entry::Dotted,
+        _ => Entry::Plain,
     }
 }

@@ -1,7 +1,9 @@
 // The next word or mark of a text.
-ghost use Rattle.std.specs.Prelude.{◌≡◌, ℕ, ◌+◌, ◌-◌, ◌<◌, ◌≤◌, true, false, length, slice_index};
-ghost use Rattle.grammar.specs.Items.{is_letter_lem, role};
-ghost use Rattle.grammar.specs.Lexed.{Next};
+ghost use Rattle.std.specs.Prelude.{◌≡◌, ℕ, ◌+◌, ◌-◌, ◌<◌, ◌≤◌, true, false, [], length, slice_index, MatchOption};
+ghost use Rattle.grammar.specs.Items.{is_letter_lem, role, from};
+ghost use Rattle.grammar.specs.Lexed.{Starts, Next, Shuts};
+
+use crate::fault::Fault;
 
 // A word, with its bytes, a mark, or the end of the text.
 #[derive(Clone, Copy)]
@@ -26,10 +28,15 @@ pub struct Lexed<'a> {
 fn is_letter(b: u8) -> bool
     ensures { result ≡ is_letter_lem (role b) }
 {
-    match b as char {
-        '|' | '[' | ']' | ',' | ' ' => false,
-        _ => true,
-    }
+    !matches!(b as char, '|' | '[' | ']' | ',' | ' ')
+}
+
+// The first byte from `at` on that is no space.
+fn first_of(text: &[u8], at: usize) -> Option<usize>
+    ensures { MatchOption result (from text.now at ≡ []) (Starts text.now at) }
+{
+    let n = text.get(at..)?.iter().position(|b| *b != b' ')?;
+    Some(at + n)
 }
 
 // The end of the word that starts at `start`.
@@ -39,54 +46,58 @@ fn word_end(text: &[u8], start: usize) -> usize
     ensures letters { (k : ℕ) → start < k → k < result → is_letter_lem (role (slice_index text.now k)) ≡ true }
     ensures stops { result < length text.now → is_letter_lem (role (slice_index text.now result)) ≡ false }
 {
-    let mut end = start + 1;
-    while end < text.len() && is_letter(text[end]) {
-        end += 1;
+    match text[start + 1..].iter().position(|b| !is_letter(*b)) {
+        Some(n) => start + 1 + n,
+        None => text.len(),
     }
-    end
+}
+
+// A mark is one byte.
+fn mark(token: Token<'_>, start: usize) -> Lexed<'_>
+    requires { start < usize.MAX }
+    ensures { result ≡ record { token = token.entry; start = start; end = start + 1 } }
+{
+    Lexed {
+        token,
+        start,
+        end: start + 1,
+    }
 }
 
 // The first token at or after the byte `at`.
 pub fn next_token(text: &[u8], at: usize) -> Lexed<'_>
     ensures { Next text.now at result }
 {
-    let mut start = at;
-    while start < text.len() {
-        match text[start] as char {
-            ' ' => start += 1,
-            '|' => return Lexed {
-                token: Token::Bar,
+    let Some(start) = first_of(text, at) else {
+        return Lexed {
+            token: Token::End,
+            start: text.len(),
+            end: text.len(),
+        };
+    };
+    match text[start] as char {
+        '|' => mark(Token::Bar, start),
+        '[' => mark(Token::Open, start),
+        ']' => mark(Token::Close, start),
+        ',' => mark(Token::Comma, start),
+        _ => {
+            let end = word_end(text, start);
+            Lexed {
+                token: Token::Name(&text[start..end]),
                 start,
-                end: start + 1,
-            },
-            '[' => return Lexed {
-                token: Token::Open,
-                start,
-                end: start + 1,
-            },
-            ']' => return Lexed {
-                token: Token::Close,
-                start,
-                end: start + 1,
-            },
-            ',' => return Lexed {
-                token: Token::Comma,
-                start,
-                end: start + 1,
-            },
-            _ => {
-                let end = word_end(text, start);
-                return Lexed {
-                    token: Token::Name(&text[start..end]),
-                    start,
-                    end,
-                };
+                end,
             }
         }
     }
-    Lexed {
-        token: Token::End,
-        start: text.len(),
-        end: text.len(),
+}
+
+// The byte after the closing bracket, which has to come next.
+pub fn closing(text: &[u8], at: usize) -> Result<usize, Fault>
+    ensures { Shuts text.now at result }
+{
+    let mark = next_token(text, at);
+    match mark.token {
+        Token::Close => Ok(mark.end),
+        _ => Err(Fault { byte: mark.start }),
     }
 }

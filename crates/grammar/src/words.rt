@@ -1,7 +1,7 @@
 // The words that the grammar knows, and how they are told.
-ghost use Rattle.std.specs.Prelude.{◌≡◌, ◌<◌, length};
-ghost use Rattle.grammar.specs.Names.{takes};
-ghost use Rattle.grammar.specs.Machine.{zero_first_lem, number, numbered, known, class};
+ghost use Rattle.std.specs.Prelude.{◌≡◌, ◌==◌, ◌||◌, map, slice_index};
+ghost use Rattle.grammar.specs.Names.{row, takes};
+ghost use Rattle.grammar.specs.Machine.{zero_first_lem, number, numbered, look_up, known, class};
 
 // A name of the grammar, or the three dots.
 #[derive(Clone, Copy)]
@@ -24,54 +24,31 @@ pub enum Word {
     Ellipsis,
 }
 
-// What may follow a word: no argument, one, two, any number; or it is no name.
-#[derive(Clone, Copy, PartialEq)]
+// What may follow a word: no argument, one, two, any number; or it is the dots.
+#[derive(Clone, Copy, PartialEq, Eq)]
 pub enum Class {
     Bare,
     One,
     Two,
     Many,
     Dots,
-    Nothing,
 }
 
-// The largest number that may stand in a name, and the digits that it takes.
-const LARGEST: u32 = 65535;
-
-const DIGITS: usize = 5;
-
-// A zero that more digits follow.
-fn zero_first(digits: &[u8]) -> bool
-    requires { 0 < length digits.now }
-    ensures { result ≡ zero_first_lem digits.now }
+// A sign or a needless zero in front, which `parse` would take.
+fn is_padded(digits: &[u8]) -> bool
+    ensures { result ≡ (slice_index digits.now 0 == 43 || zero_first_lem digits.now) }
 {
-    digits[0] == b'0' && digits.len() != 1
+    matches!(digits, [b'+', ..] | [b'0', _, ..])
 }
 
-// The number of a name, as it is written: in decimal, with no zero in front.
+// The number of a name, as it is written: in decimal, with no sign and no zero in front.
 fn number_of(digits: &[u8]) -> Option<u16>
     ensures { result ≡ number digits.now }
 {
-    if digits.is_empty() {
+    if is_padded(digits) {
         return None;
     }
-    if digits.len() > DIGITS {
-        return None;
-    }
-    if zero_first(digits) {
-        return None;
-    }
-    let mut n: u32 = 0;
-    for b in digits {
-        if !b.is_ascii_digit() {
-            return None;
-        }
-        n = 10 * n + (*b - b'0') as u32;
-    }
-    if n > LARGEST {
-        return None;
-    }
-    Some(n as u16)
+    str::from_utf8(digits).ok()?.parse::<u16>().ok()
 }
 
 // host.N and custom.N.
@@ -79,55 +56,43 @@ fn numbered_word(word: &[u8]) -> Option<Word>
     ensures { result ≡ numbered word.now }
 {
     if let Some(digits) = word.strip_prefix(b"host.") {
-        return match number_of(digits) {
-            Some(n) => Some(Word::Host(n)),
-            None => None,
-        };
+        return number_of(digits).map(Word::Host);
     }
-    if let Some(digits) = word.strip_prefix(b"custom.") {
-        return match number_of(digits) {
-            Some(n) => Some(Word::Custom(n)),
-            None => None,
-        };
-    }
-    None
+    let digits = word.strip_prefix(b"custom.")?;
+    number_of(digits).map(Word::Custom)
+}
+
+// The words that are spelled in one way.
+const SPELLED: [(&[u8], Word); 14] = [
+    (b"int", Word::Int),
+    (b"bool", Word::Boolean),
+    (b"str", Word::Str),
+    (b"None", Word::NoneType),
+    (b"type", Word::Kind),
+    (b"typing.Any", Word::Any),
+    (b"typing.Never", Word::Never),
+    (b"typing.Callable", Word::Callable),
+    (b"list", Word::ListOf),
+    (b"set", Word::SetOf),
+    (b"typing.Iterable", Word::IterableOf),
+    (b"dict", Word::DictOf),
+    (b"tuple", Word::TupleOf),
+    (b"...", Word::Ellipsis),
+];
+
+// The word that is spelled so in one of these rows.
+fn spelled_word(rows: &[(&[u8], Word)], word: &[u8]) -> Option<Word>
+    ensures { result ≡ look_up word.now (map (λ p. row p.0.now p.1) rows.now) None }
+{
+    let (_, known) = rows.iter().find(|(spelled, _)| word == *spelled)?;
+    Some(*known)
 }
 
 // The word that these bytes are, if the grammar has it.
 pub fn word_of(word: &[u8]) -> Option<Word>
     ensures { result ≡ known word.now }
 {
-    if word == b"int".as_slice() {
-        Some(Word::Int)
-    } else if word == b"bool".as_slice() {
-        Some(Word::Boolean)
-    } else if word == b"str".as_slice() {
-        Some(Word::Str)
-    } else if word == b"None".as_slice() {
-        Some(Word::NoneType)
-    } else if word == b"type".as_slice() {
-        Some(Word::Kind)
-    } else if word == b"typing.Any".as_slice() {
-        Some(Word::Any)
-    } else if word == b"typing.Never".as_slice() {
-        Some(Word::Never)
-    } else if word == b"typing.Callable".as_slice() {
-        Some(Word::Callable)
-    } else if word == b"list".as_slice() {
-        Some(Word::ListOf)
-    } else if word == b"set".as_slice() {
-        Some(Word::SetOf)
-    } else if word == b"typing.Iterable".as_slice() {
-        Some(Word::IterableOf)
-    } else if word == b"dict".as_slice() {
-        Some(Word::DictOf)
-    } else if word == b"tuple".as_slice() {
-        Some(Word::TupleOf)
-    } else if word == b"...".as_slice() {
-        Some(Word::Ellipsis)
-    } else {
-        numbered_word(word)
-    }
+    spelled_word(&SPELLED, word).or_else(|| numbered_word(word))
 }
 
 impl Word {
@@ -146,12 +111,9 @@ impl Word {
     }
 }
 
-// What may follow the word that these bytes are.
-pub fn class_of(word: &[u8]) -> Class
+// What may follow the word that these bytes are, if the grammar has it.
+pub fn class_of(word: &[u8]) -> Option<Class>
     ensures { result ≡ class word.now }
 {
-    match word_of(word) {
-        Some(known) => known.class(),
-        None => Class::Nothing,
-    }
+    word_of(word).map(Word::class)
 }

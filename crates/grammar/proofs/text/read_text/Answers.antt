@@ -13,7 +13,7 @@ pub returns-in_err-end : goal.returns-in_err-end
 returns-in_err-end c =
     let s = c.args.text.now in
     let p = err_from_is_err_and c.from_residual.result c.from_residual.ensures.1 in
-    rw (p.1, p.2) (inr (omega arith, located (from s 0) [] (txt ∷ []) (length s) c.in_err-end.field-0.0 refl (c.in_err-end.ensures [])))
+    rw (p.1, p.2) (inr (omega arith, located (from s 0) [] (txt ∷ []) (length s) c.in_err-end.field-0.0.byte refl (c.in_err-end.ensures [])))
 
 pub returns-in-End : goal.returns-in-End
 returns-in-End c =

@@ -1,11 +1,6 @@
-use Rattle.std.proofs.Common.{ap, ◌∙◌}
-use Rattle.grammar.specs.Machine.{class, class_by}
+use Rattle.std.proofs.Common.{rules}
+use Rattle.grammar.proofs.Names.{classed}
 use Rattle.grammar.proofs.words.class_of.Goals as goal
 
-pub returns-in-Some : goal.returns-in-Some
-unfolding class
-returns-in-Some c = c.class.ensures ∙ ap class_by c.in-Some.ensures
-
-pub returns-in-None : goal.returns-in-None
-unfolding class
-returns-in-None c = ap class_by c.in-None.ensures
+pub returns : goal.returns
+returns c = classed c.args.word.now c.word_of.result c.map.result c.word_of.ensures (search rules)
