@@ -6,29 +6,21 @@ ghost use Rattle.membership.specs.Measures.{SizesAreTrue};
 ghost use Rattle.membership.specs.Samples.{MembersSamples};
 
 // A granted union has the members of its sides, and no others unless both sides hold a list or both a dict.
-pub fn unions_have_their_sides() -> u8
+pub fn unions_have_their_sides()
     ensures { UnionsHaveTheirSides }
-{
-    0
-}
+{}
 
 // A table that grows keeps the members of the types that stand.
-pub fn growing_keeps_members() -> u8
+pub fn growing_keeps_members()
     ensures { GrowingKeepsMembers }
-{
-    0
-}
+{}
 
 // The depth and the weight that a row holds are its type's.
-pub fn sizes_are_true() -> u8
+pub fn sizes_are_true()
     ensures { SizesAreTrue }
-{
-    0
-}
+{}
 
 // The samples of members.
-pub fn samples_hold() -> u8
+pub fn samples_hold()
     ensures { MembersSamples }
-{
-    0
-}
+{}
