@@ -65,7 +65,7 @@ same_word : (w v : List ℕ) (x y : Word) → word w ≡ word v → known w ≡ 
 same_word w v x y e p q = let z : Some y ≡ Some x = sym q ∙ sym (ap known (word_of_is w v e)) ∙ p in cc
 
 -- no name stands here
-pub unnamed : (tok : Token) (s : List ℕ) (i p e : ℕ) (t : List Row) → NextBy tok s i p e → ((v : Bor (List ℕ)) → tok ≡ Named v → ⊥) → AltBuilt s i t t (Err (Outside p))
+pub unnamed : (tok : Token) (s : List ℕ) (i p e : ℕ) (t : List Row) → NextBy tok s i p e → ((v : Bor (List ℕ)) → tok ≡ Named v → ⊥) → AltBuilt s i t t (Err (Outside (record { byte = p })))
 unnamed tok s i p e t next no_name y is c q = let h = alt_head y is in go tok no_name (token_is tok s i p e next (word h.0) h.1 (q ∙ h.2)).0
   where
     go : (tok : Token) → ((v : Bor (List ℕ)) → tok ≡ Named v → ⊥) → Stands tok (word (alt_head y is).0) → ⊥
@@ -81,7 +81,7 @@ none_some x e = let z : ◌≡◌ {A = ℕ} 0 1 = cc in omega arith
 
 module _ (s : List ℕ) (i : ℕ) (t : List Row) (w : List ℕ) (p e : ℕ) (name : Ahead s i (word w) p e) where
   -- the word is no name
-  pub unknown : known w ≡ None → AltBuilt s i t t (Err (Outside p))
+  pub unknown : known w ≡ None → AltBuilt s i t t (Err (Outside (record { byte = p })))
   unknown u y is c q =
       let h = alt_head y is in
       let same = (ahead_rest s i (word w) p e name (word h.0) h.1 (q ∙ h.2)).0 in
@@ -102,7 +102,7 @@ module _ (s : List ℕ) (i : ℕ) (t : List Row) (w : List ℕ) (p e : ℕ) (nam
     pub bare_ends : (mark : Token) (ms me : ℕ) → NextBy mark s e ms me → (mark ≡ Open → ⊥) → (t₁ : List Row) (n : ℕ) → PlacedAs (λ ps. calls x p [] Opened (state t ps)) t₁ (Ok n) → AltBuilt s i t t₁ (Ok (record { ty = n; end = e }))
     bare_ends mark ms me m ne t₁ n came y is c q = let h = bare_comes mark ms me m ne y is q in (h.0, h.1 ∙ came (starts_of (from s e)))
 
-    pub bare_breaks : (mark : Token) (ms me : ℕ) → NextBy mark s e ms me → (mark ≡ Open → ⊥) → (t₁ : List Row) (f : Placed) → PlacedAs (λ ps. calls x p [] Opened (state t ps)) t₁ (Err f) → AltBuilt s i t t₁ (Err (Call f.why f.byte))
+    pub bare_breaks : (mark : Token) (ms me : ℕ) → NextBy mark s e ms me → (mark ≡ Open → ⊥) → (t₁ : List Row) (f : Placed) → PlacedAs (λ ps. calls x p [] Opened (state t ps)) t₁ (Err f) → AltBuilt s i t t₁ (Err (Call f))
     bare_breaks mark ms me m ne t₁ f came y is c q = (bare_comes mark ms me m ne y is q).1 ∙ came (starts_of (from s e))
 
     -- a bracket follows
@@ -141,7 +141,7 @@ module _ (s : List ℕ) (i : ℕ) (t : List Row) (w : List ℕ) (p e : ℕ) (nam
             let g = built.2 h.between is h.ahead in
             (g.0, h.comes_to ∙ g.1 (calls x p) ∙ ap (λ ns. calls x p ns cl.form (at_byte s t₁ cl.end)) (sym are))
 
-        pub call_breaks : (t₂ : List Row) (f : Placed) → PlacedAs (λ ps. calls x p ns cl.form (state t₁ ps)) t₂ (Err f) → AltBuilt s i t t₂ (Err (Call f.why f.byte))
+        pub call_breaks : (t₂ : List Row) (f : Placed) → PlacedAs (λ ps. calls x p ns cl.form (state t₁ ps)) t₂ (Err f) → AltBuilt s i t t₂ (Err (Call f))
         call_breaks t₂ f came y is c q = (called_with y is c q).1 ∙ came (starts_of (from s cl.end))
 
         pub call_ends : (t₂ : List Row) (n : ℕ) → PlacedAs (λ ps. calls x p ns cl.form (state t₁ ps)) t₂ (Ok n) → AltBuilt s i t t₂ (Ok (record { ty = n; end = cl.end }))

@@ -1,8 +1,8 @@
 -- The steps of the arguments' reader. Assumes nothing.
-use Rattle.std.proofs.Common.{◌≡◌, ℕ, List, [], ◌∷◌, ◌++◌, None, Ok, Err, Result, sym, refl, ap, ◌∙◌, inl, inr, append_assoc, append-nil, arith}
+use Rattle.std.proofs.Common.{◌≡◌, ℕ, List, [], ◌∷◌, ◌++◌, Some, None, Ok, Err, Result, Bor, sym, refl, ap, ◌∙◌, subst, inl, inr, append_assoc, append-nil, arith}
 use Rattle.membership.specs.Rows.{Row}
-use Rattle.grammar.specs.declared.words.Class.{Class}
-use Rattle.grammar.specs.declared.words.Class.TheVariants.{Bare, One, Two, Many, Dots, Nothing}
+use Rattle.grammar.specs.declared.fault.Fault.{Fault}
+use Rattle.grammar.specs.declared.words.Class.TheVariants.{Bare, One, Two, Many, Dots}
 use Rattle.grammar.specs.declared.tokens.Token.{Token}
 use Rattle.grammar.specs.declared.tokens.Token.TheVariants.{Name as Named, Bar, Open, Close, Comma, End}
 use Rattle.grammar.specs.Items.{Item, word, bar, left, right, comma, from}
@@ -10,82 +10,34 @@ use Rattle.grammar.specs.Names.{Called}
 use Rattle.grammar.specs.Machine.{class}
 use Rattle.grammar.specs.Grammar.{Name, seen}
 use Rattle.grammar.specs.Lexed.{Ahead, NextBy}
+use Rattle.grammar.specs.declared.stages.Entry.TheVariants.{Shut, Dotted, Plain}
+use Rattle.grammar.specs.Steps.{entry_by, entry}
 use Rattle.grammar.proofs.Names.{called}
+use Rattle.grammar.proofs.Entries.{shut_is, dotted_is}
 use Rattle.grammar.proofs.Theory.{text_head}
 use Rattle.annotation.specs.declared.calls.Form.{Form}
-use Rattle.annotation.specs.declared.calls.Form.TheVariants.{Fixed}
+use Rattle.annotation.specs.declared.calls.Form.TheVariants.{Fixed, Open as Opened}
 use Rattle.annotation.specs.declared.fault.TextFault.{TextFault}
-use Rattle.annotation.specs.declared.fault.TextFault.TheVariants.{Outside, Call}
+use Rattle.annotation.specs.declared.fault.TextFault.TheVariants.{Outside}
 use Rattle.annotation.specs.declared.builders.Built.{Built}
 use Rattle.annotation.specs.declared.builders.Closed.{Closed}
-use Rattle.annotation.specs.declared.builders.Entry.{Entry}
-use Rattle.annotation.specs.declared.builders.Entry.TheVariants.{Shut, Dotted, Plain}
 use Rattle.annotation.specs.Evaluated.{State, state, Came, on_made, text_comes}
-use Rattle.annotation.specs.Building.{at_byte, Args, shut, dots, final, further, args, args_come, entry_by, entry, Fails, TextBuilt, ArgsBuilt, Closing}
+use Rattle.annotation.specs.Building.{at_byte, Args, shut, dots, final, further, args, args_come, Fails, TextBuilt, ArgsBuilt}
 use Rattle.annotation.proofs.Fronts.{apart, ahead_rest, token_is, Stands, right_token, comma_token, word_of_is, past_word, past_mark, fails_on, fails_as}
 
-abbrev rank : Entry → ℕ
-rank Shut = 0
-rank Dotted = 1
-rank Plain = 2
-
-other : (a b : Entry) → (rank a ≡ rank b → ⊥) → a ≡ b → ⊥
-other a b ne e = ne (ap rank e)
-
-abbrev order : Class → ℕ
-order Bare = 0
-order One = 0
-order Two = 0
-order Many = 0
-order Dots = 1
-order Nothing = 0
-
 -- the dots are no name
-undotted : (w : List ℕ) → Name w → class w ≡ Dots → ⊥
-undotted w (inl c) e = let z = ap order (sym (called w Bare c) ∙ e) in omega arith
-undotted w (inr (inl c)) e = let z = ap order (sym (called w One c) ∙ e) in omega arith
-undotted w (inr (inr (inl c))) e = let z = ap order (sym (called w Two c) ∙ e) in omega arith
-undotted w (inr (inr (inr c))) e = let z = ap order (sym (called w Many c) ∙ e) in omega arith
-
-not_shut : (c : Class) → Shut ≡ entry_by c → ⊥
-not_shut Bare e = other Shut Plain (λ z. omega arith) e
-not_shut One e = other Shut Plain (λ z. omega arith) e
-not_shut Two e = other Shut Plain (λ z. omega arith) e
-not_shut Many e = other Shut Plain (λ z. omega arith) e
-not_shut Dots e = other Shut Dotted (λ z. omega arith) e
-not_shut Nothing e = other Shut Plain (λ z. omega arith) e
-
-dots_class : (c : Class) → Dotted ≡ entry_by c → c ≡ Dots
-dots_class Bare e = absurd (other Dotted Plain (λ z. omega arith) e)
-dots_class One e = absurd (other Dotted Plain (λ z. omega arith) e)
-dots_class Two e = absurd (other Dotted Plain (λ z. omega arith) e)
-dots_class Many e = absurd (other Dotted Plain (λ z. omega arith) e)
-dots_class Dots e = refl
-dots_class Nothing e = absurd (other Dotted Plain (λ z. omega arith) e)
-
--- which token each entry has
-shut_ahead : (tok : Token) (s : List ℕ) (i p e : ℕ) → NextBy tok s i p e → Shut ≡ entry tok → Ahead s i right p e
-shut_ahead (Named w) s i p e h q = absurd (not_shut (class w.now) q)
-shut_ahead Bar s i p e h q = absurd (other Shut Plain (λ z. omega arith) q)
-shut_ahead Open s i p e h q = absurd (other Shut Plain (λ z. omega arith) q)
-shut_ahead Close s i p e h q = h
-shut_ahead Comma s i p e h q = absurd (other Shut Plain (λ z. omega arith) q)
-shut_ahead End s i p e h q = absurd (other Shut Plain (λ z. omega arith) q)
-
-dots_ahead : (tok : Token) (s : List ℕ) (i p e : ℕ) → NextBy tok s i p e → Dotted ≡ entry tok → (w : List ℕ) × Ahead s i (word w) p e × (class w ≡ Dots)
-dots_ahead (Named w) s i p e h q = (w.now, h, dots_class (class w.now) q)
-dots_ahead Bar s i p e h q = absurd (other Dotted Plain (λ z. omega arith) q)
-dots_ahead Open s i p e h q = absurd (other Dotted Plain (λ z. omega arith) q)
-dots_ahead Close s i p e h q = absurd (other Dotted Shut (λ z. omega arith) q)
-dots_ahead Comma s i p e h q = absurd (other Dotted Plain (λ z. omega arith) q)
-dots_ahead End s i p e h q = absurd (other Dotted Plain (λ z. omega arith) q)
+undotted : (w : List ℕ) → Name w → class w ≡ Some Dots → ⊥
+undotted w (inl c) e = let z = sym (called w Bare c) ∙ e in cc
+undotted w (inr (inl c)) e = let z = sym (called w One c) ∙ e in cc
+undotted w (inr (inr (inl c))) e = let z = sym (called w Two c) ∙ e in cc
+undotted w (inr (inr (inr c))) e = let z = sym (called w Many c) ∙ e in cc
 
 -- the closing bracket at once
 pub args_shut : (tok : Token) (s : List ℕ) (i p e : ℕ) (t : List Row) (es : List ℕ) → NextBy tok s i p e → Shut ≡ entry tok → ArgsBuilt s i t t es es (Ok (record { form = Fixed; end = e }))
 args_shut tok s i p e t es next q = ([], sym (append-nil es), go)
   where
     here : Ahead s i right p e
-    here = shut_ahead tok s i p e next q
+    here = subst (λ t. NextBy t s i p e) (shut_is tok q) next
 
     wordless : (w : List ℕ) (js : List Item) → seen (from s i) ≡ word w ∷ js → ⊥
     wordless w js l = apart right (word w) (seen (from s e)) js (λ z. omega arith) (sym (ap seen here.items_are) ∙ l)
@@ -96,54 +48,54 @@ args_shut tok s i p e t es next q = ([], sym (append-nil es), go)
     go (final x) is l = let h = text_head x (right ∷ is) in absurd (wordless h.0 h.1 (l ∙ h.2))
     go (further x z) is l = let h = text_head x (comma ∷ args z is) in absurd (wordless h.0 h.1 (l ∙ h.2))
 
--- the dots and the closing bracket
-pub args_dotted : (tok : Token) (s : List ℕ) (i p e : ℕ) (t : List Row) (es : List ℕ) → NextBy tok s i p e → Dotted ≡ entry tok → (r : Result Closed TextFault) → Closing s e r → ArgsBuilt s i t t es es r
-args_dotted tok s i p e t es next q r closing = by_result r closing
-  where
-    word_here : (w : List ℕ) × Ahead s i (word w) p e × (class w ≡ Dots)
-    word_here = dots_ahead tok s i p e next q
+-- the dots, and the closing bracket or what stands in its place
+module _ (tok : Token) (s : List ℕ) (i p e : ℕ) (t : List Row) (es : List ℕ) (next : NextBy tok s i p e) (q : Dotted ≡ entry tok) where
+  word_here : (w : Bor (List ℕ)) × (tok ≡ Named w) × (class w.now ≡ Some Dots)
+  word_here = dotted_is tok q
 
-    w : List ℕ
-    w = word_here.0
+  w : List ℕ
+  w = word_here.0.now
 
-    here : Ahead s i (word w) p e
-    here = word_here.1
+  here : Ahead s i (word w) p e
+  unfolding w word_here
+  here = subst (λ t. NextBy t s i p e) word_here.1 next
 
-    markless : (js : List Item) → seen (from s i) ≡ right ∷ js → ⊥
-    markless js l = apart (word w) right (seen (from s e)) js (λ z. omega arith) (sym (ap seen here.items_are) ∙ l)
+  markless : (js : List Item) → seen (from s i) ≡ right ∷ js → ⊥
+  markless js l = apart (word w) right (seen (from s e)) js (λ z. omega arith) (sym (ap seen here.items_are) ∙ l)
 
-    nameless : (v : List ℕ) (js : List Item) → Name v → seen (from s i) ≡ word v ∷ js → ⊥
-    nameless v js n l = undotted v n (sym (ap class (word_of_is w v (ahead_rest s i (word w) p e here (word v) js l).0)) ∙ word_here.2)
+  nameless : (v : List ℕ) (js : List Item) → Name v → seen (from s i) ≡ word v ∷ js → ⊥
+  unfolding w word_here
+  nameless v js n l = undotted v n (sym (ap class (word_of_is w v (ahead_rest s i (word w) p e here (word v) js l).0)) ∙ word_here.2)
 
-    by_result : (r : Result Closed TextFault) → Closing s e r → ArgsBuilt s i t t es es r
-    by_result (Ok b) c = ([], sym (append-nil es), go)
-      where
-        go : (z : Args) (is : List Item) → seen (from s i) ≡ args z is → (seen (from s b.end) ≡ is) × ((k : List ℕ → Form → State → Came) → args_come z k (at_byte s t i) ≡ k [] b.form (at_byte s t b.end))
-        go shut is l = absurd (markless is l)
-        go (dots d m) is l =
-            let g = c.1 is (ahead_rest s i (word w) p e here (word d) (right ∷ is) l).1 in
-            let on = (past_word s i w p e t here).1 ∙ ap (state t) g.1 in
-            (g.0, λ k j. k [] (sym c.0 j) (on j))
-        go (final x) is l = let h = text_head x (right ∷ is) in absurd (nameless h.0 h.1 h.3 (l ∙ h.2))
-        go (further x z) is l = let h = text_head x (comma ∷ args z is) in absurd (nameless h.0 h.1 h.3 (l ∙ h.2))
-    by_result (Err (Outside f)) c = λ z is l k. go z is l
-      where
-        go : (z : Args) (is : List Item) → seen (from s i) ≡ args z is → ⊥
-        go shut is l = markless is l
-        go (dots d m) is l = c is (ahead_rest s i (word w) p e here (word d) (right ∷ is) l).1
-        go (final x) is l = let h = text_head x (right ∷ is) in nameless h.0 h.1 h.3 (l ∙ h.2)
-        go (further x z) is l = let h = text_head x (comma ∷ args z is) in nameless h.0 h.1 h.3 (l ∙ h.2)
-    by_result (Err (Call why f)) c = absurd c
+  pub dots_end : (f : ℕ) → (m : ℕ) × Ahead s e right m f → ArgsBuilt s i t t es es (Ok (record { form = Opened; end = f }))
+  dots_end f c = ([], sym (append-nil es), go)
+    where
+      go : (z : Args) (is : List Item) → seen (from s i) ≡ args z is → (seen (from s f) ≡ is) × ((k : List ℕ → Form → State → Came) → args_come z k (at_byte s t i) ≡ k [] Opened (at_byte s t f))
+      go shut is l = absurd (markless is l)
+      go (dots d m) is l =
+          let on = (past_word s i w p e t here).1 ∙ past_mark s e right c.0 f t (λ z. omega arith) c.1 in
+          ((ahead_rest s e right c.0 f c.1 right is (ahead_rest s i (word w) p e here (word d) (right ∷ is) l).1).1, λ k. ap (k [] Opened) on)
+      go (final x) is l = let h = text_head x (right ∷ is) in absurd (nameless h.0 h.1 h.3 (l ∙ h.2))
+      go (further x z) is l = let h = text_head x (comma ∷ args z is) in absurd (nameless h.0 h.1 h.3 (l ∙ h.2))
+
+  pub dots_break : (f : Fault) → (m : Token) × (me : ℕ) × NextBy m s e f.byte me × (m ≡ Close → ⊥) → ArgsBuilt s i t t es es (Err (Outside f))
+  dots_break f c z is l k = go z is l
+    where
+      go : (z : Args) (is : List Item) → seen (from s i) ≡ args z is → ⊥
+      go shut is l = markless is l
+      go (dots d m) is l = c.3 (right_token c.0 (token_is c.0 s e f.byte c.1 c.2 right is (ahead_rest s i (word w) p e here (word d) (right ∷ is) l).1).0)
+      go (final x) is l = let h = text_head x (right ∷ is) in nameless h.0 h.1 h.3 (l ∙ h.2)
+      go (further x z) is l = let h = text_head x (comma ∷ args z is) in nameless h.0 h.1 h.3 (l ∙ h.2)
 
 module _ (tok : Token) (s : List ℕ) (i p e : ℕ) (next : NextBy tok s i p e) (plain : Plain ≡ entry tok) (t : List Row) where
   no_mark_there : (js : List Item) → seen (from s i) ≡ right ∷ js → ⊥
-  no_mark_there js l = other Plain Shut (λ z. omega arith) (plain ∙ ap entry (right_token tok (token_is tok s i p e next right js l).0))
+  no_mark_there js l = let z = plain ∙ ap entry (right_token tok (token_is tok s i p e next right js l).0) in cc
 
   no_dots : (d : List ℕ) (js : List Item) → Called d Dots → seen (from s i) ≡ word d ∷ js → ⊥
   no_dots d js c l = go tok plain (token_is tok s i p e next (word d) js l).0
     where
       go : (tok : Token) → Plain ≡ entry tok → Stands tok (word d) → ⊥
-      go (Named v) q z = other Plain Dotted (λ z. omega arith) (q ∙ ap (λ w. entry_by (class w)) (word_of_is v.now d z) ∙ ap entry_by (called d Dots c))
+      go (Named v) q z = let e = q ∙ ap (λ w. entry_by (class w)) (word_of_is v.now d z) ∙ ap entry_by (called d Dots c) in cc
       go Bar q z = apart bar (word d) [] [] (λ z. omega arith) (ap (λ x. x ∷ []) z)
       go Open q z = apart left (word d) [] [] (λ z. omega arith) (ap (λ x. x ∷ []) z)
       go Close q z = apart right (word d) [] [] (λ z. omega arith) (ap (λ x. x ∷ []) z)
@@ -201,7 +153,7 @@ module _ (tok : Token) (s : List ℕ) (i p e : ℕ) (next : NextBy tok s i p e) 
             (rec z is (ahead_rest s a.end comma ms me m comma (args z is) h.0).1 (λ ns. k (a.ty ∷ ns)))
 
     -- anything else
-    pub args_other : (mark : Token) (ms me : ℕ) → NextBy mark s a.end ms me → (mark ≡ Close → ⊥) → (mark ≡ Comma → ⊥) → ArgsBuilt s i t t₁ es es₂ (Err (Outside ms))
+    pub args_other : (mark : Token) (ms me : ℕ) → NextBy mark s a.end ms me → (mark ≡ Close → ⊥) → (mark ≡ Comma → ⊥) → ArgsBuilt s i t t₁ es es₂ (Err (Outside (record { byte = ms })))
     args_other mark ms me m n₁ n₂ shut is l k = no_mark_there is l
     args_other mark ms me m n₁ n₂ (dots d c) is l k = no_dots d (right ∷ is) c l
     args_other mark ms me m n₁ n₂ (final x) is l k = n₁ (right_token mark (token_is mark s a.end ms me m right is (built x (right ∷ is) tt l).0).0)

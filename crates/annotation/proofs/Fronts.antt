@@ -130,7 +130,7 @@ past_mark s i m p e t ne h = ap (state t) (mark_starts s i m p e ne h)
 -- a refused call stays refused
 pub fails_on : (t : List Row) (v : Came) (g : State → ℕ → Came) (f : TextFault) → Fails t v f → Fails t (on_made v g) f
 fails_on t v g (Outside p) h = h
-fails_on t v g (Call why p) h = ap (λ v. on_made v g) h
+fails_on t v g (Call c) h = ap (λ v. on_made v g) h
 
 pub fails_as : (t : List Row) (v u : Came) (f : TextFault) → v ≡ u → Fails t u f → Fails t v f
 fails_as t v u f e h = subst (λ v. Fails t v f) (sym e) h

@@ -20,4 +20,4 @@ module _ (s : List ℕ) (t t' : List Row) (accepted : Accepted s) where
 
   pub read_refused : (f : TextFault) → TextBuilt s 0 None t t' (Err f) → ReadAs s t t' (Err f)
   read_refused (Outside p) h = absurd (h accepted.1.0 [] tt (sym accepted.1.1))
-  read_refused (Call why p) h = (accepted, λ x q. h x [] tt (sym q))
+  read_refused (Call c) h = (accepted, λ x q. h x [] tt (sym q))

@@ -28,7 +28,7 @@ module _ (s : List ℕ) (i : ℕ) (b : Option ℕ) (t t₁ : List Row) (a : Buil
       ap (λ v. on_made v (joined b (first (at_byte s t i)))) v ∙ ap (λ p. joined b p (at_byte s t₁ a.end) a.ty) (first_is tok s i p e t next h.0 h.1 (q ∙ h.2))
 
   -- the join is refused
-  pub join_breaks : (t₂ : List Row) (f : Placed) → PlacedAs (λ ps. joined b p (state t₁ ps) a.ty) t₂ (Err f) → TextBuilt s i b t t₂ (Err (Call f.why f.byte))
+  pub join_breaks : (t₂ : List Row) (f : Placed) → PlacedAs (λ ps. joined b p (state t₁ ps) a.ty) t₂ (Err f) → TextBuilt s i b t t₂ (Err (Call f))
   join_breaks t₂ f h (last y) is c q = one_more y is q (built y is (calm_still is c) q).1 ∙ h (starts_of (from s a.end))
   join_breaks t₂ f h (join y z) is c q = ap (λ v. on_made v (λ σ n. text_comes z (Some n) σ)) (one_more y (bar ∷ text z is) q (built y (bar ∷ text z is) tt q).1 ∙ h (starts_of (from s a.end)))
 

@@ -1,13 +1,9 @@
 -- What the readers of the second pass answer, for every tree of the items ahead. Assumes nothing.
-use Rattle.std.specs.Prelude.{◌≡◌, ℕ, ◌<◌, ◌≤◌, List, [], ◌∷◌, ◌++◌, length, None, Ok, Err, Option, Result, ◌≢◌}
+use Rattle.std.specs.Prelude.{◌≡◌, ℕ, ◌<◌, ◌≤◌, List, [], ◌∷◌, ◌++◌, length, None, Ok, Err, Option, Result}
 use Rattle.values.specs.Refusals.{number}
 use Rattle.membership.specs.Rows.{Row}
-use Rattle.grammar.specs.declared.words.Class.{Class}
-use Rattle.grammar.specs.declared.words.Class.TheVariants.{Bare, One, Two, Many, Dots, Nothing}
-use Rattle.grammar.specs.declared.tokens.Token.{Token}
-use Rattle.grammar.specs.declared.tokens.Token.TheVariants.{Name, Bar, Open, Close, Comma, End}
+use Rattle.grammar.specs.declared.words.Class.TheVariants.{Dots}
 use Rattle.grammar.specs.Names.{Called}
-use Rattle.grammar.specs.Machine.{class}
 use Rattle.grammar.specs.Items.{Item, word, right, comma, from, calm, still}
 use Rattle.grammar.specs.Grammar.{Text, Alt, text, alt, seen}
 use Rattle.annotation.specs.declared.calls.Form.{Form}
@@ -17,8 +13,6 @@ use Rattle.annotation.specs.declared.fault.TextFault.{TextFault}
 use Rattle.annotation.specs.declared.fault.TextFault.TheVariants.{Outside, Call}
 use Rattle.annotation.specs.declared.builders.Built.{Built}
 use Rattle.annotation.specs.declared.builders.Closed.{Closed}
-use Rattle.annotation.specs.declared.builders.Entry.{Entry}
-use Rattle.annotation.specs.declared.builders.Entry.TheVariants.{Shut, Dotted, Plain}
 use Rattle.annotation.specs.Evaluated.{State, state, past, Came, made, turned, on_made, text_comes, alt_comes, starts_of}
 
 -- the state at the byte i of the text s
@@ -46,27 +40,10 @@ args_come (dots d e) k σ = k [] Opened (past σ)
 args_come (final t) k σ = on_made (text_comes t None σ) (λ σ' n. k (n ∷ []) Fixed σ')
 args_come (further t z) k σ = on_made (text_comes t None σ) (λ σ' n. args_come z (λ ns. k (n ∷ ns)) σ')
 
--- how an argument begins
-abbrev pub entry_by : Class → Entry
-entry_by Bare = Plain
-entry_by One = Plain
-entry_by Two = Plain
-entry_by Many = Plain
-entry_by Dots = Dotted
-entry_by Nothing = Plain
-
-abbrev pub entry : Token → Entry
-entry (Name w) = entry_by (class w.now)
-entry Bar = Plain
-entry Open = Plain
-entry Close = Shut
-entry Comma = Plain
-entry End = Plain
-
 -- a fault is that of the refused call
 abbrev pub Fails : List Row → Came → TextFault → Type 0
-Fails t' v (Outside p) = ⊥
-Fails t' v (Call why p) = v ≡ turned t' (number why) p
+Fails t' v (Outside f) = ⊥
+Fails t' v (Call c) = v ≡ turned t' (number c.why) c.byte
 
 -- a type call comes to the same with any words to come
 abbrev pub PlacedAs : (List ℕ → Came) → List Row → Result ℕ Placed → Type 0
@@ -88,12 +65,6 @@ AltBuilt s i t t' r = (y : Alt) (is : List Item) → still is → seen (from s i
 abbrev pub ArgsBuilt : List ℕ → ℕ → List Row → List Row → List ℕ → List ℕ → Result Closed TextFault → Type 0
 ArgsBuilt s i t t' es es' (Ok b) = (ns : List ℕ) × (es' ≡ es ++ ns) × ((z : Args) (is : List Item) → seen (from s i) ≡ args z is → (seen (from s b.end) ≡ is) × ((k : List ℕ → Form → State → Came) → args_come z k (at_byte s t i) ≡ k ns b.form (at_byte s t' b.end)))
 ArgsBuilt s i t t' es es' (Err f) = (z : Args) (is : List Item) → seen (from s i) ≡ args z is → (k : List ℕ → Form → State → Came) → Fails t' (args_come z k (at_byte s t i)) f
-
--- the closing bracket after the dots
-abbrev pub Closing : List ℕ → ℕ → Result Closed TextFault → Type 0
-Closing s i (Ok b) = (b.form ≡ Opened) × ((is : List Item) → seen (from s i) ≡ right ∷ is → (seen (from s b.end) ≡ is) × (starts_of (from s i) ≡ starts_of (from s b.end)))
-Closing s i (Err (Outside p)) = (is : List Item) → seen (from s i) ≢ right ∷ is
-Closing s i (Err (Call why p)) = ⊥
 
 -- how far a reader goes
 abbrev pub Forth : List ℕ → ℕ → Result Built TextFault → Type 0

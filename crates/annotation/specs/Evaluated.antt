@@ -96,5 +96,5 @@ MeansOn s t v = Accepted s × ((x : Text) → text x [] ≡ seen (items 0 s) →
 -- what the reader answers, and the table t' that it leaves: of a text outside the grammar the byte of the fault
 abbrev pub ReadAs : List ℕ → List Row → List Row → Result ℕ TextFault → Type 0
 ReadAs s t t' (Ok n) = MeansOn s t (made (state t' []) n)
-ReadAs s t t' (Err (Outside p)) = FaultAt s p × (t' ≡ t)
-ReadAs s t t' (Err (Call why p)) = MeansOn s t (turned t' (number why) p)
+ReadAs s t t' (Err (Outside f)) = FaultAt s f.byte × (t' ≡ t)
+ReadAs s t t' (Err (Call c)) = MeansOn s t (turned t' (number c.why) c.byte)

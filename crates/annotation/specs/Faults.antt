@@ -6,8 +6,8 @@ use Rattle.annotation.specs.declared.fault.TextFault.TheVariants.{Outside, Call}
 
 -- the reason and the byte of each case
 abbrev pub says : TextFault → ℕ × ℕ
-says (Outside p) = (11, p)
-says (Call why p) = (number why, p)
+says (Outside f) = (11, f.byte)
+says (Call c) = (number c.why, c.byte)
 
 abbrev pub code_of : TextFault → ℕ
 code_of f = (says f).0

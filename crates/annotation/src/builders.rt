@@ -1,12 +1,14 @@
 // The second pass: the readers of a text, an alternative and its arguments make the types of a text whose grammar was tested.
 ghost use Rattle.std.specs.Prelude.{◌≡◌, ◌≤◌, true, length, is_ok, vec_len, vec_capacity};
 ghost use Rattle.typing.specs.Held.{rows_of};
-ghost use Rattle.annotation.specs.Building.{TextBuilt, AltBuilt, ArgsBuilt, Closing, Forth, ForthClosed, entry};
+ghost use Rattle.annotation.specs.Building.{TextBuilt, AltBuilt, ArgsBuilt, Forth, ForthClosed};
 
 use crate::calls::{Form, call, call_from, join};
 use crate::fault::TextFault;
-use grammar::tokens::{Token, next_token};
-use grammar::words::{Class, class_of, word_of};
+use grammar::fault::Fault;
+use grammar::stages::{Entry, entry_of};
+use grammar::tokens::{Token, closing, next_token};
+use grammar::words::word_of;
 use typing::types::Types;
 
 // A type and the byte after its text.
@@ -21,27 +23,6 @@ pub struct Built {
 pub struct Closed {
     pub form: Form,
     pub end: usize,
-}
-
-// How an argument begins: with the closing bracket, with `...`, or as a text.
-#[derive(Clone, Copy)]
-pub enum Entry {
-    Shut,
-    Dotted,
-    Plain,
-}
-
-fn entry_of(token: Token<'_>) -> Entry
-    ensures { result ≡ entry token.entry }
-{
-    match token {
-        Token::Close => Entry::Shut,
-        Token::Name(word) => match class_of(word) {
-            Class::Dots => Entry::Dotted,
-            _ => Entry::Plain,
-        },
-        _ => Entry::Plain,
-    }
 }
 
 // A text: an alternative, joined to those before it, and while a bar follows, another.
@@ -88,10 +69,10 @@ fn alternative_type(
 {
     let name = next_token(text, at);
     let Token::Name(bytes) = name.token else {
-        return Err(TextFault::Outside(name.start));
+        return Err(TextFault::Outside(Fault { byte: name.start }));
     };
     let Some(word) = word_of(bytes) else {
-        return Err(TextFault::Outside(name.start));
+        return Err(TextFault::Outside(Fault { byte: name.start }));
     };
     let mark = next_token(text, name.end);
     let Token::Open = mark.token else {
@@ -126,7 +107,13 @@ fn argument_types(
             form: Form::Fixed,
             end: first.end,
         }),
-        Entry::Dotted => return closing(text, first.end),
+        Entry::Dotted => {
+            let end = closing(text, first.end)?;
+            return Ok(Closed {
+                form: Form::Open,
+                end,
+            });
+        }
         Entry::Plain => {}
     }
     let argument = text_type(text, at, None, types, elements)?;
@@ -138,22 +125,6 @@ fn argument_types(
             end: mark.end,
         }),
         Token::Comma => argument_types(text, mark.end, types, elements),
-        _ => Err(TextFault::Outside(mark.start)),
-    }
-}
-
-// The closing bracket after `...`.
-fn closing(text: &[u8], at: usize) -> Result<Closed, TextFault>
-    requires { at ≤ length text.now }
-    ensures closes { Closing text.now at result }
-    ensures forth { ForthClosed text.now at result }
-{
-    let mark = next_token(text, at);
-    match mark.token {
-        Token::Close => Ok(Closed {
-            form: Form::Open,
-            end: mark.end,
-        }),
-        _ => Err(TextFault::Outside(mark.start)),
+        _ => Err(TextFault::Outside(Fault { byte: mark.start })),
     }
 }

@@ -36,11 +36,7 @@ const STR: u16 = 4;
 fn argument_or_any(arguments: &[usize], i: usize) -> usize
     ensures { result ≡ part arguments.now i }
 {
-    if i < arguments.len() {
-        arguments[i]
-    } else {
-        ANY
-    }
+    arguments.get(i).copied().unwrap_or(ANY)
 }
 
 fn make_tuple(types: &mut Types, form: Form, arguments: &[usize]) -> Result<usize, Refusal>
@@ -85,10 +81,7 @@ pub fn make(
 fn at_byte(answer: Result<usize, Refusal>, byte: usize) -> Result<usize, Placed>
     ensures { result ≡ result_map_both (λ n. n) (λ f. record { why = f; byte = byte }) answer }
 {
-    match answer {
-        Ok(ty) => Ok(ty),
-        Err(why) => Err(Placed { why, byte }),
-    }
+    answer.map_err(|why| Placed { why, byte })
 }
 
 // The call of the alternative at `byte`.
@@ -102,14 +95,6 @@ pub(crate) fn call(
     ensures { PlacedAs (λ ps. calls word byte arguments.now form (state (rows_of types.old) ps)) (rows_of types.new) result }
 {
     at_byte(make(types, word, form, arguments), byte)
-}
-
-// The elements from `base` on.
-fn tail(elements: &[usize], base: usize) -> &[usize]
-    requires { base ≤ length elements.now }
-    ensures { result.now ≡ drop base elements.now }
-{
-    &elements[base..]
 }
 
 // The same with the elements from `base` on as arguments, which are then taken off.
@@ -126,7 +111,7 @@ pub(crate) fn call_from(
     ensures items { elements.new.items ≡ take base elements.old.items }
     ensures room { vec_capacity elements.new ≡ vec_capacity elements.old }
 {
-    let answer = call(types, word, form, tail(elements, base), byte);
+    let answer = call(types, word, form, &elements[base..], byte);
     elements.truncate(base);
     answer
 }

@@ -3,6 +3,7 @@ ghost use Rattle.std.specs.Prelude.{◌≡◌};
 ghost use Rattle.annotation.specs.declared.fault.TextFault.{TextFault};
 ghost use Rattle.annotation.specs.Faults.{code_of, byte_of};
 
+use grammar::fault::Fault;
 use values::refusal::Refusal;
 
 // The number of a text that is outside its grammar or length.
@@ -10,10 +11,10 @@ const OUTSIDE: u8 = 11;
 
 #[derive(Clone, Copy)]
 pub enum TextFault {
-    // The text is outside its grammar or length, from this byte on.
-    Outside(usize),
-    // A type call is refused, with the first byte of its alternative.
-    Call(Refusal, usize),
+    // The text is outside its grammar or length.
+    Outside(Fault),
+    // A type call is refused.
+    Call(Placed),
 }
 
 // A refused type call and the first byte of its alternative.
@@ -23,11 +24,19 @@ pub struct Placed {
     pub byte: usize,
 }
 
+impl From<Fault> for TextFault {
+    ghost from_gives = { λ x y. y ≡ TextFault.Outside x };
+
+    fn from(value: Fault) -> TextFault {
+        TextFault::Outside(value)
+    }
+}
+
 impl From<Placed> for TextFault {
-    ghost from_gives = { λ x y. y ≡ TextFault.Call x.why x.byte };
+    ghost from_gives = { λ x y. y ≡ TextFault.Call x };
 
     fn from(value: Placed) -> TextFault {
-        TextFault::Call(value.why, value.byte)
+        TextFault::Call(value)
     }
 }
 
@@ -38,7 +47,7 @@ impl TextFault {
     {
         match self {
             TextFault::Outside(_) => OUTSIDE,
-            TextFault::Call(why, _) => u8::from(why),
+            TextFault::Call(placed) => u8::from(placed.why),
         }
     }
 
@@ -47,8 +56,8 @@ impl TextFault {
         ensures { result ≡ byte_of self }
     {
         match self {
-            TextFault::Outside(byte) => byte,
-            TextFault::Call(_, byte) => byte,
+            TextFault::Outside(fault) => fault.byte,
+            TextFault::Call(placed) => placed.byte,
         }
     }
 }

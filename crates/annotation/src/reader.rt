@@ -30,10 +30,7 @@ impl Reader {
     pub fn read(&mut self, text: &[u8], types: &mut Types) -> Result<usize, TextFault>
         ensures { ReadAs text.now (rows_of types.old) (rows_of types.new) result }
     {
-        match read_text(text) {
-            Ok(()) => {}
-            Err(byte) => return Err(TextFault::Outside(byte)),
-        }
+        read_text(text)?;
         self.elements.clear();
         let built = text_type(text, 0, None, types, &mut self.elements)?;
         Ok(built.ty)

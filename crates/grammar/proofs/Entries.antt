@@ -4,7 +4,7 @@ use Rattle.grammar.specs.declared.words.Class.{Class}
 use Rattle.grammar.specs.declared.words.Class.TheVariants.{Bare, One, Two, Many, Dots}
 use Rattle.grammar.specs.declared.tokens.Token.{Token}
 use Rattle.grammar.specs.declared.tokens.Token.TheVariants.{Name, Bar, Open, Close, Comma, End}
-use Rattle.grammar.specs.declared.stages.Entry.TheVariants.{Shut, Dotted, Plain}
+use Rattle.grammar.specs.declared.stages.Entry.TheVariants.{Shut, Dotted}
 use Rattle.grammar.specs.Machine.{class}
 use Rattle.grammar.specs.Steps.{entry_by, entry}
 

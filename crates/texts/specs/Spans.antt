@@ -1,7 +1,7 @@
 -- Where a record's text stands. Assumes nothing.
-use Rattle.std.specs.Prelude.{ℕ, ◌<◌, ◌≤◌, List, length, Some, None, Option}
-use Rattle.texts.specs.declared.Span.{Span}
+use Rattle.std.specs.Prelude.{◌≡◌, ℕ, ◌≤◌, List, ◌++◌, length, take, Bor, Some, None, Option}
 
-abbrev pub Within : List ℕ → ℕ → Option Span → Type 0
-Within s at None = Unit {0}
-Within s at (Some p) = (at < p.first) × (p.first ≤ p.end) × (p.end ≤ length s)
+-- the bytes are those of the size, the text and what follows it
+abbrev pub Within : List ℕ → Option (Bor (List ℕ) × Bor (List ℕ)) → Type 0
+Within s None = Unit {0}
+Within s (Some p) = (2 ≤ length s) × (s ≡ take 2 s ++ (p.0.now ++ p.1.now))

@@ -11,33 +11,12 @@ use typing::types::Types;
 // The most bytes that are read.
 const MOST: u64 = 1000000;
 
-// Where a text stands among the bytes.
-#[derive(Clone, Copy)]
-pub struct Span {
-    pub first: usize,
-    pub end: usize,
-}
-
-// The record at the byte `at`, if a whole one stands there.
-fn record(bytes: &[u8], at: usize) -> Option<Span>
-    ensures { Within bytes.now at result }
+// The text of the record at the front, and what follows the record, if a whole one stands there.
+fn record(bytes: &[u8]) -> Option<(&[u8], &[u8])>
+    ensures { Within bytes.now result }
 {
-    if at >= bytes.len() {
-        return None;
-    }
-    let left = bytes.len() - at;
-    if left < 2 {
-        return None;
-    }
-    let size = bytes[at] as usize * 256 + bytes[at + 1] as usize;
-    if left - 2 < size {
-        return None;
-    }
-    let first = at + 2;
-    Some(Span {
-        first,
-        end: first + size,
-    })
+    let (size, rest) = bytes.split_first_chunk::<2>()?;
+    rest.split_at_checked(usize::from(u16::from_be_bytes(*size)))
 }
 
 fn show(rt: &HostRuntime, reader: &mut Reader, text: &[u8]) -> io::Result<()> {
@@ -56,13 +35,10 @@ fn main(rt: HostRuntime) -> io::Result<()> {
     let mut bytes = Vec::new(rt.alloc());
     rt.stdin().take(MOST).read_to_end(&mut bytes)?;
     let mut reader = Reader::new(rt.alloc())?;
-    let all = bytes.as_slice();
-    let mut at = 0;
-    while let Some(span) = record(all, at) {
-        let first = span.first;
-        let end = span.end;
-        show(&rt, &mut reader, &all[first..end])?;
-        at = end;
+    let mut rest = bytes.as_slice();
+    while let Some((text, more)) = record(rest) {
+        show(&rt, &mut reader, text)?;
+        rest = more;
     }
     Ok(())
 }

@@ -6,209 +6,135 @@ use Rattle.grammar.specs.Items.{word, bar, left, right, comma}
 use Rattle.grammar.specs.Lexed.{Ahead, NextBy}
 use Rattle.annotation.proofs.Texts.{text_breaks, join_breaks, text_ends, text_goes}
 use Rattle.annotation.proofs.Alternatives.{unnamed, unknown, bare_ends, bare_breaks, args_break, call_breaks, call_ends, added}
-use Rattle.annotation.proofs.Arguments.{args_shut, args_dotted, text_fails, args_close, args_comma, args_other}
+use Rattle.annotation.proofs.Arguments.{args_shut, dots_end, dots_break, text_fails, args_close, args_comma, args_other}
 use Rattle.annotation.proofs.builders.+alternative_type_argument_types_text_type.Goals as goal
 
-pub text_type-returns-in_default : goal.text_type-returns-in_default
-text_type-returns-in_default t c =
+pub text_type-returns-in_default-clause-built : goal.text_type-returns-in_default-clause-built
+text_type-returns-in_default-clause-built t c =
     let n = c.next_token-start.result in
     let m = c.next_token-mark.result in
-    record {
-      built = text_ends c.args.text.now c.args.at c.args.before (rows_of c.args.types.now) (rows_of c.alternative_type.new.types) c.in_ok-alternative.alternative c.in_ok-alternative.ensures.built n.token n.start n.end c.next_token-start.ensures (rows_of c.join.new.types) c.in_ok-ty.ty c.in_ok-ty.ensures m.token m.start m.end c.next_token-mark.ensures c.in_default.not-Bar;
-      forth = search rules;
-      kept = search rules;
-      room = search rules;
-    }
+    text_ends c.args.text.now c.args.at c.args.before (rows_of c.args.types.now) (rows_of c.alternative_type.new.types) c.in_ok-alternative.alternative c.in_ok-alternative.ensures.built n.token n.start n.end c.next_token-start.ensures (rows_of c.join.new.types) c.in_ok-ty.ty c.in_ok-ty.ensures m.token m.start m.end c.next_token-mark.ensures c.in_default.not-Bar
 
-pub text_type-returns-in-Bar : goal.text_type-returns-in-Bar
-text_type-returns-in-Bar t c =
+pub text_type-returns-in-Bar-clause-built : goal.text_type-returns-in-Bar-clause-built
+text_type-returns-in-Bar-clause-built t c =
     let n = c.next_token-start.result in
     let m = c.next_token-mark.result in
     let a : Ahead c.args.text.now c.in_ok-alternative.alternative.end bar m.start m.end = subst (λ k. NextBy k c.args.text.now c.in_ok-alternative.alternative.end m.start m.end) c.in-Bar.is c.next_token-mark.ensures in
-    record {
-      built = text_goes c.args.text.now c.args.at c.args.before (rows_of c.args.types.now) (rows_of c.alternative_type.new.types) c.in_ok-alternative.alternative c.in_ok-alternative.ensures.built n.token n.start n.end c.next_token-start.ensures (rows_of c.join.new.types) c.in_ok-ty.ty c.in_ok-ty.ensures m.start m.end a (rows_of c.text_type.new.types) c.text_type.result c.text_type.ensures.built;
-      forth = search rules;
-      kept = search rules;
-      room = search rules;
-    }
+    text_goes c.args.text.now c.args.at c.args.before (rows_of c.args.types.now) (rows_of c.alternative_type.new.types) c.in_ok-alternative.alternative c.in_ok-alternative.ensures.built n.token n.start n.end c.next_token-start.ensures (rows_of c.join.new.types) c.in_ok-ty.ty c.in_ok-ty.ensures m.start m.end a (rows_of c.text_type.new.types) c.text_type.result c.text_type.ensures.built
 
-pub text_type-returns-in_err-alternative : goal.text_type-returns-in_err-alternative
-text_type-returns-in_err-alternative t c =
+pub text_type-returns-in_err-alternative-clause-built : goal.text_type-returns-in_err-alternative-clause-built
+text_type-returns-in_err-alternative-clause-built t c =
     let q = err_from_is_err_and c.from_residual.result c.from_residual.ensures.1 in
-    rw (q.1, q.2)
-    (record {
-      built = text_breaks c.args.text.now c.args.at c.args.before (rows_of c.args.types.now) (rows_of c.alternative_type.new.types) c.in_err-alternative.field-0.0 c.in_err-alternative.ensures.built;
-      forth = tt;
-      kept = λ e. absurd (true≢false (sym e));
-      room = search rules;
-    })
+    rw (q.1, q.2) (text_breaks c.args.text.now c.args.at c.args.before (rows_of c.args.types.now) (rows_of c.alternative_type.new.types) c.in_err-alternative.field-0.0 c.in_err-alternative.ensures.built)
 
-pub text_type-returns-in_err-ty : goal.text_type-returns-in_err-ty
-text_type-returns-in_err-ty t c =
+pub text_type-returns-in_err-ty-clause-built : goal.text_type-returns-in_err-ty-clause-built
+text_type-returns-in_err-ty-clause-built t c =
     let n = c.next_token-start.result in
     let q = err_from_is_err_and c.from_residual-in_err-ty.result c.from_residual-in_err-ty.ensures.1 in
-    rw (q.1, q.2)
-    (record {
-      built = join_breaks c.args.text.now c.args.at c.args.before (rows_of c.args.types.now) (rows_of c.alternative_type.new.types) c.in_ok-alternative.alternative c.in_ok-alternative.ensures.built n.token n.start n.end c.next_token-start.ensures (rows_of c.join.new.types) c.in_err-ty.field-0.0 c.in_err-ty.ensures;
-      forth = tt;
-      kept = λ e. absurd (true≢false (sym e));
-      room = search rules;
-    })
+    rw (q.1, q.2) (join_breaks c.args.text.now c.args.at c.args.before (rows_of c.args.types.now) (rows_of c.alternative_type.new.types) c.in_ok-alternative.alternative c.in_ok-alternative.ensures.built n.token n.start n.end c.next_token-start.ensures (rows_of c.join.new.types) c.in_err-ty.field-0.0 c.in_err-ty.ensures)
 
-pub alternative_type-returns-in_default : goal.alternative_type-returns-in_default
-alternative_type-returns-in_default t c =
+pub alternative_type-returns-in_default-clause-built : goal.alternative_type-returns-in_default-clause-built
+alternative_type-returns-in_default-clause-built t c =
     let n = c.next_token-name.result in
-    record {
-      built = unnamed n.token c.args.text.now c.args.at n.start n.end (rows_of c.args.types.now) c.next_token-name.ensures c.in_default.not-Name;
-      forth = tt;
-      kept = λ e. absurd (true≢false (sym e));
-      room = search rules;
-    }
+    unnamed n.token c.args.text.now c.args.at n.start n.end (rows_of c.args.types.now) c.next_token-name.ensures c.in_default.not-Name
 
-pub alternative_type-returns-in_default-word_of : goal.alternative_type-returns-in_default-word_of
-alternative_type-returns-in_default-word_of t c =
+pub alternative_type-returns-in_default-word_of-clause-built : goal.alternative_type-returns-in_default-word_of-clause-built
+alternative_type-returns-in_default-word_of-clause-built t c =
     let n = c.next_token-name.result in
     let name : Ahead c.args.text.now c.args.at (word c.in-Name.bytes.now) n.start n.end = subst (λ k. NextBy k c.args.text.now c.args.at n.start n.end) c.in-Name.is c.next_token-name.ensures in
-    record {
-      built = unknown c.args.text.now c.args.at (rows_of c.args.types.now) c.in-Name.bytes.now n.start n.end name (sym c.in_default-word_of.ensures);
-      forth = tt;
-      kept = λ e. absurd (true≢false (sym e));
-      room = search rules;
-    }
+    unknown c.args.text.now c.args.at (rows_of c.args.types.now) c.in-Name.bytes.now n.start n.end name (sym c.in_default-word_of.ensures)
 
-pub alternative_type-returns-in_err-ty : goal.alternative_type-returns-in_err-ty
-alternative_type-returns-in_err-ty t c =
+pub alternative_type-returns-in_err-ty-clause-built : goal.alternative_type-returns-in_err-ty-clause-built
+alternative_type-returns-in_err-ty-clause-built t c =
     let n = c.next_token-name.result in
     let m = c.next_token-mark.result in
     let name : Ahead c.args.text.now c.args.at (word c.in-Name.bytes.now) n.start n.end = subst (λ k. NextBy k c.args.text.now c.args.at n.start n.end) c.in-Name.is c.next_token-name.ensures in
     let q = err_from_is_err_and c.from_residual.result c.from_residual.ensures.1 in
-    rw (q.1, q.2)
-    (record {
-      built = bare_breaks c.args.text.now c.args.at (rows_of c.args.types.now) c.in-Name.bytes.now n.start n.end name c.in-Some.word (sym c.in-Some.ensures) m.token m.start m.end c.next_token-mark.ensures c.in_default-token.not-Open (rows_of c.call.new.types) c.in_err-ty.field-0.0 c.in_err-ty.ensures;
-      forth = tt;
-      kept = λ e. absurd (true≢false (sym e));
-      room = search rules;
-    })
+    rw (q.1, q.2) (bare_breaks c.args.text.now c.args.at (rows_of c.args.types.now) c.in-Name.bytes.now n.start n.end name c.in-Some.word (sym c.in-Some.ensures) m.token m.start m.end c.next_token-mark.ensures c.in_default-token.not-Open (rows_of c.call.new.types) c.in_err-ty.field-0.0 c.in_err-ty.ensures)
 
-pub alternative_type-returns-in_default-token : goal.alternative_type-returns-in_default-token
-alternative_type-returns-in_default-token t c =
+pub alternative_type-returns-in_default-token-clause-built : goal.alternative_type-returns-in_default-token-clause-built
+alternative_type-returns-in_default-token-clause-built t c =
     let n = c.next_token-name.result in
     let m = c.next_token-mark.result in
     let name : Ahead c.args.text.now c.args.at (word c.in-Name.bytes.now) n.start n.end = subst (λ k. NextBy k c.args.text.now c.args.at n.start n.end) c.in-Name.is c.next_token-name.ensures in
-    record {
-      built = bare_ends c.args.text.now c.args.at (rows_of c.args.types.now) c.in-Name.bytes.now n.start n.end name c.in-Some.word (sym c.in-Some.ensures) m.token m.start m.end c.next_token-mark.ensures c.in_default-token.not-Open (rows_of c.call.new.types) c.in_ok-ty.ty c.in_ok-ty.ensures;
-      forth = search rules;
-      kept = search rules;
-      room = search rules;
-    }
+    bare_ends c.args.text.now c.args.at (rows_of c.args.types.now) c.in-Name.bytes.now n.start n.end name c.in-Some.word (sym c.in-Some.ensures) m.token m.start m.end c.next_token-mark.ensures c.in_default-token.not-Open (rows_of c.call.new.types) c.in_ok-ty.ty c.in_ok-ty.ensures
 
-pub alternative_type-returns-in_err-closed : goal.alternative_type-returns-in_err-closed
-alternative_type-returns-in_err-closed t c =
+pub alternative_type-returns-in_err-closed-clause-built : goal.alternative_type-returns-in_err-closed-clause-built
+alternative_type-returns-in_err-closed-clause-built t c =
     let n = c.next_token-name.result in
     let m = c.next_token-mark.result in
     let name : Ahead c.args.text.now c.args.at (word c.in-Name.bytes.now) n.start n.end = subst (λ k. NextBy k c.args.text.now c.args.at n.start n.end) c.in-Name.is c.next_token-name.ensures in
     let a : Ahead c.args.text.now n.end left m.start m.end = subst (λ k. NextBy k c.args.text.now n.end m.start m.end) c.in-Open.is c.next_token-mark.ensures in
     let q = err_from_is_err_and c.from_residual-in_err-closed.result c.from_residual-in_err-closed.ensures.1 in
-    rw (q.1, q.2)
-    (record {
-      built = args_break c.args.text.now c.args.at (rows_of c.args.types.now) c.in-Name.bytes.now n.start n.end name c.in-Some.word (sym c.in-Some.ensures) m.start m.end a (rows_of c.argument_types.new.types) (vec_items c.args.elements.now) (vec_items c.argument_types.new.elements) c.in_err-closed.field-0.0 c.in_err-closed.ensures.built;
-      forth = tt;
-      kept = λ e. absurd (true≢false (sym e));
-      room = search rules;
-    })
+    rw (q.1, q.2) (args_break c.args.text.now c.args.at (rows_of c.args.types.now) c.in-Name.bytes.now n.start n.end name c.in-Some.word (sym c.in-Some.ensures) m.start m.end a (rows_of c.argument_types.new.types) (vec_items c.args.elements.now) (vec_items c.argument_types.new.elements) c.in_err-closed.field-0.0 c.in_err-closed.ensures.built)
 
-pub alternative_type-returns-in_err-ty-2 : goal.alternative_type-returns-in_err-ty-2
-alternative_type-returns-in_err-ty-2 t c =
+pub alternative_type-returns-in_err-ty-2-clause-built : goal.alternative_type-returns-in_err-ty-2-clause-built
+alternative_type-returns-in_err-ty-2-clause-built t c =
     let n = c.next_token-name.result in
     let m = c.next_token-mark.result in
     let name : Ahead c.args.text.now c.args.at (word c.in-Name.bytes.now) n.start n.end = subst (λ k. NextBy k c.args.text.now c.args.at n.start n.end) c.in-Name.is c.next_token-name.ensures in
     let a : Ahead c.args.text.now n.end left m.start m.end = subst (λ k. NextBy k c.args.text.now n.end m.start m.end) c.in-Open.is c.next_token-mark.ensures in
     let d = added (vec_items c.args.elements.now) (vec_items c.argument_types.new.elements) c.in_ok-closed.ensures.built.0 c.len-base.result (c.len-base.ensures ∙ c.args.elements.now.ok.0) c.in_ok-closed.ensures.built.1 in
     let q = err_from_is_err_and c.from_residual-in_err-ty-2.result c.from_residual-in_err-ty-2.ensures.1 in
-    rw (q.1, q.2)
-    (record {
-      built = call_breaks c.args.text.now c.args.at (rows_of c.args.types.now) c.in-Name.bytes.now n.start n.end name c.in-Some.word (sym c.in-Some.ensures) m.start m.end a (rows_of c.argument_types.new.types) (vec_items c.args.elements.now) (vec_items c.argument_types.new.elements) c.in_ok-closed.closed c.in_ok-closed.ensures.built (drop c.len-base.result (vec_items c.argument_types.new.elements)) d.0 (rows_of c.call_from.new.types) c.in_err-ty-2.field-0.0 c.in_err-ty-2.ensures.answers;
-      forth = tt;
-      kept = λ e. absurd (true≢false (sym e));
-      room = search rules;
-    })
+    rw (q.1, q.2) (call_breaks c.args.text.now c.args.at (rows_of c.args.types.now) c.in-Name.bytes.now n.start n.end name c.in-Some.word (sym c.in-Some.ensures) m.start m.end a (rows_of c.argument_types.new.types) (vec_items c.args.elements.now) (vec_items c.argument_types.new.elements) c.in_ok-closed.closed c.in_ok-closed.ensures.built (drop c.len-base.result (vec_items c.argument_types.new.elements)) d.0 (rows_of c.call_from.new.types) c.in_err-ty-2.field-0.0 c.in_err-ty-2.ensures.answers)
 
-pub alternative_type-returns : goal.alternative_type-returns
-alternative_type-returns t c =
+pub alternative_type-returns-clause-built : goal.alternative_type-returns-clause-built
+alternative_type-returns-clause-built t c =
     let n = c.next_token-name.result in
     let m = c.next_token-mark.result in
     let name : Ahead c.args.text.now c.args.at (word c.in-Name.bytes.now) n.start n.end = subst (λ k. NextBy k c.args.text.now c.args.at n.start n.end) c.in-Name.is c.next_token-name.ensures in
     let a : Ahead c.args.text.now n.end left m.start m.end = subst (λ k. NextBy k c.args.text.now n.end m.start m.end) c.in-Open.is c.next_token-mark.ensures in
     let d = added (vec_items c.args.elements.now) (vec_items c.argument_types.new.elements) c.in_ok-closed.ensures.built.0 c.len-base.result (c.len-base.ensures ∙ c.args.elements.now.ok.0) c.in_ok-closed.ensures.built.1 in
-    record {
-      built = call_ends c.args.text.now c.args.at (rows_of c.args.types.now) c.in-Name.bytes.now n.start n.end name c.in-Some.word (sym c.in-Some.ensures) m.start m.end a (rows_of c.argument_types.new.types) (vec_items c.args.elements.now) (vec_items c.argument_types.new.elements) c.in_ok-closed.closed c.in_ok-closed.ensures.built (drop c.len-base.result (vec_items c.argument_types.new.elements)) d.0 (rows_of c.call_from.new.types) c.in_ok-ty-2.ty c.in_ok-ty-2.ensures.answers;
-      forth = search rules;
-      kept = λ e. c.in_ok-ty-2.ensures.items ∙ d.1;
-      room = search rules;
-    }
+    call_ends c.args.text.now c.args.at (rows_of c.args.types.now) c.in-Name.bytes.now n.start n.end name c.in-Some.word (sym c.in-Some.ensures) m.start m.end a (rows_of c.argument_types.new.types) (vec_items c.args.elements.now) (vec_items c.argument_types.new.elements) c.in_ok-closed.closed c.in_ok-closed.ensures.built (drop c.len-base.result (vec_items c.argument_types.new.elements)) d.0 (rows_of c.call_from.new.types) c.in_ok-ty-2.ty c.in_ok-ty-2.ensures.answers
+
+pub alternative_type-returns-clause-kept : goal.alternative_type-returns-clause-kept
+alternative_type-returns-clause-kept t c =
+    let d = added (vec_items c.args.elements.now) (vec_items c.argument_types.new.elements) c.in_ok-closed.ensures.built.0 c.len-base.result (c.len-base.ensures ∙ c.args.elements.now.ok.0) c.in_ok-closed.ensures.built.1 in
+    λ e. c.in_ok-ty-2.ensures.items ∙ d.1
 
 pub alternative_type-call_from-requires : goal.alternative_type-call_from-requires
 alternative_type-call_from-requires t c =
     let b = c.in_ok-closed.ensures.built in
     omega (arith, c.len-base.ensures, c.args.elements.now.ok.0, c.argument_types.new.elements.ok.0, ap length b.1, length-append (vec_items c.args.elements.now) b.0)
 
-pub argument_types-returns-in-Shut : goal.argument_types-returns-in-Shut
-argument_types-returns-in-Shut t c =
+pub argument_types-returns-in-Shut-clause-built : goal.argument_types-returns-in-Shut-clause-built
+argument_types-returns-in-Shut-clause-built t c =
     let f = c.next_token-first.result in
-    record {
-      built = args_shut f.token c.args.text.now c.args.at f.start f.end (rows_of c.args.types.now) (vec_items c.args.elements.now) c.next_token-first.ensures c.in-Shut.ensures;
-      forth = search rules;
-      room = search rules;
-    }
+    args_shut f.token c.args.text.now c.args.at f.start f.end (rows_of c.args.types.now) (vec_items c.args.elements.now) c.next_token-first.ensures c.in-Shut.ensures
 
-pub argument_types-returns-in-Dotted : goal.argument_types-returns-in-Dotted
-argument_types-returns-in-Dotted t c =
+pub argument_types-returns-in-Dotted-clause-built : goal.argument_types-returns-in-Dotted-clause-built
+argument_types-returns-in-Dotted-clause-built t c =
     let f = c.next_token-first.result in
-    record {
-      built = args_dotted f.token c.args.text.now c.args.at f.start f.end (rows_of c.args.types.now) (vec_items c.args.elements.now) c.next_token-first.ensures c.in-Dotted.ensures c.closing.result c.closing.ensures.closes;
-      forth = search rules;
-      room = search rules;
-    }
+    dots_end f.token c.args.text.now c.args.at f.start f.end (rows_of c.args.types.now) (vec_items c.args.elements.now) c.next_token-first.ensures c.in-Dotted.ensures c.in_ok-end-in-Dotted.end c.in_ok-end-in-Dotted.ensures
 
-pub argument_types-returns-in_err-argument : goal.argument_types-returns-in_err-argument
-argument_types-returns-in_err-argument t c =
+pub argument_types-returns-in_err-end-in-Dotted-clause-built : goal.argument_types-returns-in_err-end-in-Dotted-clause-built
+argument_types-returns-in_err-end-in-Dotted-clause-built t c =
     let f = c.next_token-first.result in
     let q = err_from_is_err_and c.from_residual.result c.from_residual.ensures.1 in
-    rw (q.1, q.2)
-    (record {
-      built = text_fails f.token c.args.text.now c.args.at f.start f.end c.next_token-first.ensures c.in-Plain.ensures (rows_of c.args.types.now) (rows_of c.text_type.new.types) (vec_items c.args.elements.now) (vec_items c.text_type.new.elements) c.in_err-argument.field-0.0 c.in_err-argument.ensures.built;
-      forth = tt;
-      room = search rules;
-    })
+    rw (q.1, q.2) (dots_break f.token c.args.text.now c.args.at f.start f.end (rows_of c.args.types.now) (vec_items c.args.elements.now) c.next_token-first.ensures c.in-Dotted.ensures c.in_err-end-in-Dotted.field-0.0 c.in_err-end-in-Dotted.ensures)
 
-pub argument_types-returns-in-Close : goal.argument_types-returns-in-Close
-argument_types-returns-in-Close t c =
+pub argument_types-returns-in_err-argument-clause-built : goal.argument_types-returns-in_err-argument-clause-built
+argument_types-returns-in_err-argument-clause-built t c =
+    let f = c.next_token-first.result in
+    let q = err_from_is_err_and c.from_residual-in_err-argument.result c.from_residual-in_err-argument.ensures.1 in
+    rw (q.1, q.2) (text_fails f.token c.args.text.now c.args.at f.start f.end c.next_token-first.ensures c.in-Plain.ensures (rows_of c.args.types.now) (rows_of c.text_type.new.types) (vec_items c.args.elements.now) (vec_items c.text_type.new.elements) c.in_err-argument.field-0.0 c.in_err-argument.ensures.built)
+
+pub argument_types-returns-in-Close-clause-built : goal.argument_types-returns-in-Close-clause-built
+argument_types-returns-in-Close-clause-built t c =
     let f = c.next_token-first.result in
     let m = c.next_token-mark.result in
     let a : Ahead c.args.text.now c.in_ok-argument.argument.end right m.start m.end = subst (λ k. NextBy k c.args.text.now c.in_ok-argument.argument.end m.start m.end) c.in-Close.is c.next_token-mark.ensures in
-    record {
-      built = args_close f.token c.args.text.now c.args.at f.start f.end c.next_token-first.ensures c.in-Plain.ensures (rows_of c.args.types.now) (rows_of c.text_type.new.types) c.in_ok-argument.argument c.in_ok-argument.ensures.built (vec_items c.args.elements.now) (vec_items c.push_reserved.new.self) (c.push_reserved.ensures.items ∙ ap (λ l. l ++ c.in_ok-argument.argument.ty ∷ []) (c.in_ok-argument.ensures.kept refl)) m.start m.end a;
-      forth = search rules;
-      room = search rules;
-    }
+    args_close f.token c.args.text.now c.args.at f.start f.end c.next_token-first.ensures c.in-Plain.ensures (rows_of c.args.types.now) (rows_of c.text_type.new.types) c.in_ok-argument.argument c.in_ok-argument.ensures.built (vec_items c.args.elements.now) (vec_items c.push_reserved.new.self) (c.push_reserved.ensures.items ∙ ap (λ l. l ++ c.in_ok-argument.argument.ty ∷ []) (c.in_ok-argument.ensures.kept refl)) m.start m.end a
 
-pub argument_types-returns-in-Comma : goal.argument_types-returns-in-Comma
-argument_types-returns-in-Comma t c =
+pub argument_types-returns-in-Comma-clause-built : goal.argument_types-returns-in-Comma-clause-built
+argument_types-returns-in-Comma-clause-built t c =
     let f = c.next_token-first.result in
     let m = c.next_token-mark.result in
     let a : Ahead c.args.text.now c.in_ok-argument.argument.end comma m.start m.end = subst (λ k. NextBy k c.args.text.now c.in_ok-argument.argument.end m.start m.end) c.in-Comma.is c.next_token-mark.ensures in
-    record {
-      built = args_comma f.token c.args.text.now c.args.at f.start f.end c.next_token-first.ensures c.in-Plain.ensures (rows_of c.args.types.now) (rows_of c.text_type.new.types) c.in_ok-argument.argument c.in_ok-argument.ensures.built (vec_items c.args.elements.now) (vec_items c.push_reserved.new.self) (c.push_reserved.ensures.items ∙ ap (λ l. l ++ c.in_ok-argument.argument.ty ∷ []) (c.in_ok-argument.ensures.kept refl)) m.start m.end a (rows_of c.argument_types.new.types) (vec_items c.argument_types.new.elements) c.argument_types.result c.argument_types.ensures.built;
-      forth = search rules;
-      room = search rules;
-    }
+    args_comma f.token c.args.text.now c.args.at f.start f.end c.next_token-first.ensures c.in-Plain.ensures (rows_of c.args.types.now) (rows_of c.text_type.new.types) c.in_ok-argument.argument c.in_ok-argument.ensures.built (vec_items c.args.elements.now) (vec_items c.push_reserved.new.self) (c.push_reserved.ensures.items ∙ ap (λ l. l ++ c.in_ok-argument.argument.ty ∷ []) (c.in_ok-argument.ensures.kept refl)) m.start m.end a (rows_of c.argument_types.new.types) (vec_items c.argument_types.new.elements) c.argument_types.result c.argument_types.ensures.built
 
-pub argument_types-returns-in_default : goal.argument_types-returns-in_default
-argument_types-returns-in_default t c =
+pub argument_types-returns-in_default-clause-built : goal.argument_types-returns-in_default-clause-built
+argument_types-returns-in_default-clause-built t c =
     let f = c.next_token-first.result in
     let m = c.next_token-mark.result in
-    record {
-      built = args_other f.token c.args.text.now c.args.at f.start f.end c.next_token-first.ensures c.in-Plain.ensures (rows_of c.args.types.now) (rows_of c.text_type.new.types) c.in_ok-argument.argument c.in_ok-argument.ensures.built (vec_items c.args.elements.now) (vec_items c.push_reserved.new.self) (c.push_reserved.ensures.items ∙ ap (λ l. l ++ c.in_ok-argument.argument.ty ∷ []) (c.in_ok-argument.ensures.kept refl)) m.token m.start m.end c.next_token-mark.ensures c.in_default.not-Close c.in_default.not-Comma;
-      forth = tt;
-      room = search rules;
-    }
+    args_other f.token c.args.text.now c.args.at f.start f.end c.next_token-first.ensures c.in-Plain.ensures (rows_of c.args.types.now) (rows_of c.text_type.new.types) c.in_ok-argument.argument c.in_ok-argument.ensures.built (vec_items c.args.elements.now) (vec_items c.push_reserved.new.self) (c.push_reserved.ensures.items ∙ ap (λ l. l ++ c.in_ok-argument.argument.ty ∷ []) (c.in_ok-argument.ensures.kept refl)) m.token m.start m.end c.next_token-mark.ensures c.in_default.not-Close c.in_default.not-Comma
