@@ -1,5 +1,6 @@
 -- Where a record's text stands. Assumes nothing.
-use Rattle.std.specs.Prelude.{◌≡◌, ℕ, ◌≤◌, List, ◌++◌, length, take, Bor, Some, None, Option}
+use Rattle.std.specs.Prelude.{◌≡◌, ℕ, ◌≤◌, List, ◌++◌, length, take, Some, None, Option}
+use Rattle.std.specs.Borrow.{Bor}
 
 -- the bytes are those of the size, the text and what follows it
 abbrev pub Within : List ℕ → Option (Bor (List ℕ) × Bor (List ℕ)) → Type 0
