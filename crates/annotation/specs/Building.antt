@@ -1,5 +1,5 @@
 -- What the readers of the second pass answer, for every tree of the items ahead. Assumes nothing.
-use Rattle.std.specs.Prelude.{◌≡◌, ℕ, ◌<◌, ◌≤◌, List, [], ◌∷◌, ◌++◌, length, None, Ok, Err, Option, Result}
+use Rattle.std.specs.Prelude.{◌≡◌, ℕ, ◌<◌, ◌≤◌, List, [], ◌∷◌, ◌++◌, length, None, Ok, Err, Option, Result, vec_len}
 use Rattle.values.specs.Refusals.{number}
 use Rattle.membership.specs.Rows.{Row}
 use Rattle.grammar.specs.declared.words.Class.TheVariants.{Dots}
@@ -11,6 +11,7 @@ use Rattle.annotation.specs.declared.calls.Form.TheVariants.{Fixed, Open as Open
 use Rattle.annotation.specs.declared.fault.Placed.{Placed}
 use Rattle.annotation.specs.declared.fault.TextFault.{TextFault}
 use Rattle.annotation.specs.declared.fault.TextFault.TheVariants.{Outside, Call}
+use Rattle.annotation.specs.declared.builder.Builder.{Builder}
 use Rattle.annotation.specs.declared.builders.Built.{Built}
 use Rattle.annotation.specs.declared.builders.Closed.{Closed}
 use Rattle.annotation.specs.Evaluated.{State, state, past, Came, made, turned, on_made, text_comes, alt_comes, starts_of}
@@ -65,6 +66,14 @@ AltBuilt s i t t' r = (y : Alt) (is : List Item) → still is → seen (from s i
 abbrev pub ArgsBuilt : List ℕ → ℕ → List Row → List Row → List ℕ → List ℕ → Result Closed TextFault → Type 0
 ArgsBuilt s i t t' es es' (Ok b) = (ns : List ℕ) × (es' ≡ es ++ ns) × ((z : Args) (is : List Item) → seen (from s i) ≡ args z is → (seen (from s b.end) ≡ is) × ((k : List ℕ → Form → State → Came) → args_come z k (at_byte s t i) ≡ k ns b.form (at_byte s t' b.end)))
 ArgsBuilt s i t t' es es' (Err f) = (z : Args) (is : List Item) → seen (from s i) ≡ args z is → (k : List ℕ → Form → State → Came) → Fails t' (args_come z k (at_byte s t i)) f
+
+-- a reader may begin at the byte i: fewer arguments wait than bytes went by
+abbrev pub Ready : Builder → ℕ → Type 0
+Ready b i = (i ≤ length b.text.now) × (vec_len b.elements.now ≤ i)
+
+-- the text and both tables are still those
+abbrev pub SameBuilder : Builder → Builder → Type 0
+SameBuilder b c = (c.text ≡ b.text) × (c.types.ghost_name ≡ b.types.ghost_name) × (c.elements.ghost_name ≡ b.elements.ghost_name)
 
 -- how far a reader goes
 abbrev pub Forth : List ℕ → ℕ → Result Built TextFault → Type 0

@@ -4,7 +4,7 @@ ghost use Rattle.grammar.specs.Grammar.{longest};
 ghost use Rattle.typing.specs.Held.{rows_of};
 ghost use Rattle.annotation.specs.Evaluated.{ReadAs};
 
-use crate::builders::text_type;
+use crate::builder::Builder;
 use crate::fault::TextFault;
 use grammar::text::{LONGEST, read_text};
 use std::alloc::{AllocError, Global};
@@ -32,7 +32,12 @@ impl Reader {
     {
         read_text(text)?;
         self.elements.clear();
-        let built = text_type(text, 0, None, types, &mut self.elements)?;
+        let mut builder = Builder {
+            text,
+            types,
+            elements: &mut self.elements,
+        };
+        let built = builder.text_type(0, None)?;
         Ok(built.ty)
     }
 }

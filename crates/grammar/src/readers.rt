@@ -1,4 +1,5 @@
 // The readers of a text, an alternative and an argument. Each answers the byte after what it read, or the fault.
+// The text and the byte stay two parameters: only the byte moves, and a cursor of both would hand the text back in every answer.
 ghost use Rattle.std.specs.Prelude.{◌≡◌, ◌≤◌, length};
 ghost use Rattle.grammar.specs.Machine.{txt, arg, Reader, AltReader};
 
