@@ -16,7 +16,7 @@ use typing::types::Types;
 
 const PLACES: u16 = 400;
 
-// A node: its kind, its number where the kind has one, and its kids.
+// A node: its kind, its number where the kind has one, and its kids. A store names nodes and kids by numbers, so the loops count them.
 fn show_node<S: TypeMatcherAlloc>(rt: HostRuntime, store: &S, n: usize) -> anyhow::Result<()> {
     let Ok(kind) = store.kind(n) else {
         return Ok(());
