@@ -1,14 +1,19 @@
 -- The rows of a table and the nodes that they mean. Assumes nothing.
-use Rattle.std.proofs.Common.{◌≡◌, ℕ, zero, suc, ◌+◌, ◌<◌, ◌≤◌, max, Bool, true, false, cond, ◌&&◌, ltb, List, [], ◌∷◌, ◌++◌, length, get_or, take, drop, Ok, Err, Result, sym, refl, ap, ◌∙◌, arith, length-drop}
+use Rattle.std.proofs.Common.{◌≡◌, ℕ, zero, suc, ◌+◌, ◌<◌, ◌≤◌, max, Bool, true, false, cond, ◌&&◌, ltb, List, [], ◌∷◌, ◌++◌, length, get_or, take, drop, Some, None, Ok, Err, Result, sym, refl, ap, ◌∙◌, arith, length-drop}
 use lib.ListN.{length-map}
-use Rattle.std.proofs.lemmas.List.{get_or-map, get_or-take, get_or-drop, length-take-le, take-append-le, drop-append-le, drop_at, take_all, map_push, drop_more, drop_all}
-use Rattle.std.proofs.lemmas.Bool.{and_parts, and_from, ltb-true, leb-true, lt-ltb, le-leb, le-ltb}
+use Rattle.std.specs.List.{fold, list_all, position, position_or_len, range_with_len}
+use Rattle.std.specs.Option.{unwrap_or}
+use Rattle.std.proofs.lemmas.List.{get_or-map, length-take-le, take-append-le, drop-append-le, drop_at, take_all, map_push}
+use Rattle.std.proofs.lemmas.List.FromFn.{length-range_with_len, get_or-range_with_len}
+use Rattle.std.proofs.lemmas.List.Recursion.{is_position_or_len}
+use Rattle.std.proofs.lemmas.List.Sums.{position_or_len_is, fails_before_first, passes_at_first}
+use Rattle.std.proofs.lemmas.Bool.{and_parts, and_from, leb-true, lt-ltb, le-leb, ltb-false, ltb-true}
 use Rattle.values.specs.declared.refusal.Refusal.{Refusal}
 use Rattle.values.specs.declared.refusal.Refusal.TheVariants.{NoNode}
-use Rattle.matcher.specs.Nodes.{Node, node, node_at_lem, no_node, node_says, node_kid, depths, depth_over, highest, all_below, find, same_node}
+use Rattle.matcher.specs.Nodes.{Node, node, node_at_lem, no_node, depths, depth_over, deepest, highest, all_below, find, same_node}
 use Rattle.matcher.specs.Tables.{no_row, kids_of, node_of, nodes_of, spans, Deep, row_says}
 use Rattle.matcher.specs.declared.rows.Row.{Row}
-use Rattle.matcher.proofs.Grows.{depths_push, depths_long}
+use Rattle.matcher.proofs.Grows.{depths_push, depths_long, Low, find_low}
 
 pub long : (rs : List Row) (pool : List ℕ) → length (nodes_of rs pool) ≡ length rs
 unfolding nodes_of
@@ -26,28 +31,6 @@ span_at m (r ∷ rs) (suc n) s l = span_at m rs n (and_parts _ _ s).1 (omega ari
 pub kids_long : (pool : List ℕ) (r : Row) → r.first + r.count ≤ length pool → length (kids_of pool r) ≡ r.count
 kids_long pool r h = length-take-le r.count (drop r.first pool) (omega (arith, length-drop r.first pool))
 
-says_by : {X : Type 0} (rs : List Row) (pool : List ℕ) (n : ℕ) (f : Node → X) → node_says (nodes_of rs pool) n f ≡ row_says rs n (λ r. f (node_of pool r))
-says_by rs pool n f = by (ltb n (length rs)) refl
-  where
-    by : (b : Bool) → ltb n (length rs) ≡ b → node_says (nodes_of rs pool) n f ≡ row_says rs n (λ r. f (node_of pool r))
-    by true h = rw (long rs pool, h) (ap (λ x. Ok (f x)) (node_at rs pool n (ltb-true n (length rs) h)))
-    by false h = rw (long rs pool, h) refl
-
-module _ {X : Type 0} (rs : List Row) (pool : List ℕ) (n : ℕ) (f : Node → X) where
-  pub got : (row : Row) → Ok row ≡ row_says rs n (λ x. x) → Ok (f (node_of pool row)) ≡ node_says (nodes_of rs pool) n f
-  got row h = rw (says_by rs pool n f) (by (ltb n (length rs)) h)
-    where
-      by : (b : Bool) → ◌≡◌ {A = Result Row Refusal} (Ok row) (cond b (Ok (get_or rs n no_row)) (Err NoNode)) → ◌≡◌ {A = Result X Refusal} (Ok (f (node_of pool row))) (cond b (Ok (f (node_of pool (get_or rs n no_row)))) (Err NoNode))
-      by true h = cc
-      by false h = cc
-
-  pub not_got : (e : Refusal) → Err e ≡ row_says rs n (λ x. x) → Err e ≡ node_says (nodes_of rs pool) n f
-  not_got e h = rw (says_by rs pool n f) (by (ltb n (length rs)) h)
-    where
-      by : (b : Bool) → ◌≡◌ {A = Result Row Refusal} (Err e) (cond b (Ok (get_or rs n no_row)) (Err NoNode)) → ◌≡◌ {A = Result X Refusal} (Err e) (cond b (Ok (f (node_of pool (get_or rs n no_row)))) (Err NoNode))
-      by true h = cc
-      by false h = cc
-
 pub found : (rs : List Row) (n : ℕ) (row : Row) → Ok row ≡ row_says rs n (λ x. x) → (n < length rs) × (row ≡ get_or rs n no_row)
 found rs n row h = by (ltb n (length rs)) refl h
   where
@@ -55,22 +38,12 @@ found rs n row h = by (ltb n (length rs)) refl h
     by true e h = (ltb-true n (length rs) e, cc)
     by false e h = let z : ◌≡◌ {A = ℕ} 0 1 = cc in absurd (omega arith)
 
-pub kid_past : (ns : List Node) (n i : ℕ) → length ns ≤ n → ◌≡◌ {A = Result ℕ Refusal} (Err NoNode) (node_kid ns n i)
-kid_past ns n i h = rw (le-ltb n (length ns) h) refl
-
-pub kid_none : (rs : List Row) (pool : List ℕ) (n i : ℕ) → n < length rs → (get_or rs n no_row).first + (get_or rs n no_row).count ≤ length pool → (get_or rs n no_row).count ≤ i → ◌≡◌ {A = Result ℕ Refusal} (Err NoNode) (node_kid (nodes_of rs pool) n i)
-kid_none rs pool n i l s h =
-    rw (node_at rs pool n l) (rw (le-ltb i (length (kids_of pool (get_or rs n no_row))) (omega (arith, kids_long pool (get_or rs n no_row) s))) (by (ltb n (length (nodes_of rs pool)))))
+pub not_found : (rs : List Row) (n : ℕ) (e : Refusal) → Err e ≡ row_says rs n (λ x. x) → (length rs ≤ n) × (e ≡ NoNode)
+not_found rs n e h = by (ltb n (length rs)) refl h
   where
-    by : (b : Bool) → ◌≡◌ {A = Result ℕ Refusal} (Err NoNode) (cond (b && false) (Ok (get_or (kids_of pool (get_or rs n no_row)) i 0)) (Err NoNode))
-    by true = refl
-    by false = refl
-
-pub kid_is : (rs : List Row) (pool : List ℕ) (n i : ℕ) → n < length rs → (get_or rs n no_row).first + (get_or rs n no_row).count ≤ length pool → i < (get_or rs n no_row).count → ◌≡◌ {A = Result ℕ Refusal} (Ok (get_or pool ((get_or rs n no_row).first + i) 0)) (node_kid (nodes_of rs pool) n i)
-kid_is rs pool n i l s h =
-    let r = get_or rs n no_row in
-    let a : get_or (kids_of pool r) i 0 ≡ get_or pool (r.first + i) 0 = get_or-take r.count (drop r.first pool) i 0 h ∙ get_or-drop r.first pool i 0 in
-    rw (node_at rs pool n l) (rw (lt-ltb n (length (nodes_of rs pool)) (omega (arith, long rs pool)), lt-ltb i (length (kids_of pool r)) (omega (arith, kids_long pool r s))) (ap Ok (sym a)))
+    by : (b : Bool) → ltb n (length rs) ≡ b → ◌≡◌ {A = Result Row Refusal} (Err e) (cond b (Ok (get_or rs n no_row)) (Err NoNode)) → (length rs ≤ n) × (e ≡ NoNode)
+    by true q h = let z : ◌≡◌ {A = ℕ} 0 1 = cc in absurd (omega arith)
+    by false q h = (ltb-false _ _ q, cc)
 
 kids_later : (pool more : List ℕ) (r : Row) → r.first + r.count ≤ length pool → kids_of (pool ++ more) r ≡ kids_of pool r
 kids_later pool more r h =
@@ -116,32 +89,54 @@ deep_add (s ∷ rs) (d ∷ ds) r x l all one (suc n) = deep_add rs ds r x (omega
 pub deep_push : (rs : List Row) (ns : List Node) (r : Row) (d : Node) → length ns ≡ length rs → Deep rs ns → r.depth ≡ depth_over (depths ns) d.kids → Deep (rs ++ r ∷ []) (ns ++ d ∷ [])
 deep_push rs ns r d l deep e n = deep_add rs (depths ns) r _ (sym (depths_long ns ∙ l)) deep e n ∙ sym (ap (λ ds. get_or ds n 0) (depths_push ns d))
 
-pub below_at : (n : ℕ) (ks : List ℕ) (i : ℕ) → all_below n ks ≡ true → i < length ks → get_or ks i 0 < n
-below_at n [] i h l = absurd (omega arith)
-below_at n (k ∷ ks) zero h l = ltb-true _ _ (and_parts _ _ h).0
-below_at n (k ∷ ks) (suc i) h l = below_at n ks i (and_parts _ _ h).1 (omega arith)
+pub all_by_test : (n : ℕ) (ks : List ℕ) → list_all (λ k. ltb k n) ks ≡ all_below n ks
+all_by_test n [] = refl
+all_by_test n (k ∷ ks) = ap (λ b. ltb k n && b) (all_by_test n ks)
 
--- a highest so far, and the rest
-pub highest_more : (ds ks : List ℕ) (i so : ℕ) (all : ℕ) → i < length ks → max so (highest ds (drop i ks)) ≡ all → max (max so (get_or ds (get_or ks i 0) 0)) (highest ds (drop (i + 1) ks)) ≡ all
-highest_more ds ks i so all l h = omega (arith, ap (highest ds) (drop_more ks i 0 l), h)
+-- a fold from the front, and the greatest from the back
+max_fold : (ds ks : List ℕ) (so : ℕ) → fold (λ a k. max a (get_or ds k 0)) so ks ≡ max so (highest ds ks)
+max_fold ds [] so = omega arith
+max_fold ds (k ∷ ks) so = omega (arith, max_fold ds ks (max so (get_or ds k 0)))
 
-pub highest_end : (ds ks : List ℕ) (i so : ℕ) (all : ℕ) → length ks ≤ i → max so (highest ds (drop i ks)) ≡ all → so ≡ all
-highest_end ds ks i so all l h = omega (arith, ap (highest ds) (drop_all i ks l), h)
+pub highest_by_max : (ds ks : List ℕ) → fold (λ a k. max a (get_or ds k 0)) 0 ks ≡ highest ds ks
+highest_by_max ds ks = omega (arith, max_fold ds ks 0)
 
-pub find_hit : (ns : List Node) (d : Node) (i : ℕ) → i < length ns → same_node (node_at_lem ns i) d ≡ true → find (drop i ns) d ≡ 0
-find_hit ns d i l s = ap (λ x. find x d) (drop_more ns i no_node l) ∙ ap (λ b. cond b 0 (suc (find (drop (i + 1) ns) d))) s
+pub highest_low : (ds ks : List ℕ) → Low ds → highest ds ks ≤ deepest
+highest_low ds [] low = omega arith
+highest_low ds (k ∷ ks) low = omega (arith, low k, highest_low ds ks low)
 
-pub find_miss : (ns : List Node) (d : Node) (i : ℕ) → i < length ns → same_node (node_at_lem ns i) d ≡ false → find (drop i ns) d ≡ suc (find (drop (i + 1) ns) d)
-find_miss ns d i l s = ap (λ x. find x d) (drop_more ns i no_node l) ∙ ap (λ b. cond b 0 (suc (find (drop (i + 1) ns) d))) s
+find_by_test : (ns : List Node) (d : Node) → find ns d ≡ position_or_len (λ x. same_node x d) ns
+find_by_test ns d = is_position_or_len (λ xs. find xs d) (λ x. same_node x d) refl (λ x xs. ap (cond (same_node x d) 0) (omega arith)) ns
 
-pub find_end : (ns : List Node) (d : Node) (i : ℕ) → length ns ≤ i → find (drop i ns) d ≡ 0
-find_end ns d i l = ap (λ x. find x d) (drop_all i ns l)
+abbrev is_at : List Node → Node → ℕ → Bool
+is_at ns d k = ltb k (length ns) && same_node (get_or ns k no_node) d
 
-pub below_stop : (n : ℕ) (ks : List ℕ) (i : ℕ) → i < length ks → n ≤ get_or ks i 0 → all_below n (drop i ks) ≡ false
-below_stop n ks i l h = ap (all_below n) (drop_more ks i 0 l) ∙ ap (λ b. b && all_below n (drop (i + 1) ks)) (le-ltb (get_or ks i 0) n h)
+find_in_range : (ns : List Node) (d : Node) → position_or_len (is_at ns d) (range_with_len 0 (length ns)) ≡ find ns d
+find_in_range ns d =
+    let q = λ (x : Node). same_node x d in
+    let e = find_by_test ns d in
+    let low = find_low ns d in
+    let long = length-range_with_len 0 (length ns) in
+    position_or_len_is (is_at ns d) (range_with_len 0 (length ns)) (find ns d) 0 (omega (arith, long, low))
+    (λ k l.
+    let h : k < length ns = omega (arith, low) in
+    let i : get_or (range_with_len 0 (length ns)) k 0 ≡ k = get_or-range_with_len 0 (length ns) k 0 h ∙ omega arith in
+    ap (is_at ns d) i ∙ ap (λ b. ltb k (length ns) && b) (fails_before_first q ns k no_node (omega (arith, e))) ∙ and_false (ltb k (length ns)))
+    (λ l.
+    let h : find ns d < length ns = omega (arith, long) in
+    let i : get_or (range_with_len 0 (length ns)) (find ns d) 0 ≡ find ns d = get_or-range_with_len 0 (length ns) (find ns d) 0 h ∙ omega arith in
+    ap (is_at ns d) i ∙ and_from _ _ (lt-ltb _ _ h) (ap (λ k. same_node (get_or ns k no_node) d) e ∙ passes_at_first q ns no_node (omega (arith, e))))
+  where
+    and_false : (b : Bool) → (b && false) ≡ false
+    and_false true = refl
+    and_false false = refl
 
-pub below_more : (n : ℕ) (ks : List ℕ) (i : ℕ) → i < length ks → get_or ks i 0 < n → all_below n (drop i ks) ≡ all_below n (drop (i + 1) ks)
-below_more n ks i l h = ap (all_below n) (drop_more ks i 0 l) ∙ ap (λ b. b && all_below n (drop (i + 1) ks)) (lt-ltb (get_or ks i 0) n h)
-
-pub below_end : (n : ℕ) (ks : List ℕ) (i : ℕ) → length ks ≤ i → all_below n (drop i ks) ≡ true
-below_end n ks i l = ap (all_below n) (drop_all i ks l)
+pub find_by_number : (ns : List Node) (d : Node) (n : ℕ) → n ≡ length ns → unwrap_or (position (is_at ns d) (range_with_len 0 n)) n ≡ find ns d
+find_by_number ns d n l =
+    let p = position_or_len (is_at ns d) (range_with_len 0 n) in
+    let e : p ≡ find ns d = ap (λ m. position_or_len (is_at ns d) (range_with_len 0 m)) l ∙ find_in_range ns d in
+    by (ltb p (length (range_with_len 0 n))) refl e
+  where
+    by : (b : Bool) → ltb (position_or_len (is_at ns d) (range_with_len 0 n)) (length (range_with_len 0 n)) ≡ b → position_or_len (is_at ns d) (range_with_len 0 n) ≡ find ns d → unwrap_or (cond b (Some (position_or_len (is_at ns d) (range_with_len 0 n))) None) n ≡ find ns d
+    by true h e = e
+    by false h e = omega (arith, ltb-false _ _ h, length-range_with_len 0 n, e, find_low ns d)

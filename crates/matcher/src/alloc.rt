@@ -1,12 +1,16 @@
 ghost use Rattle.std.specs.Prelude.{◌≡◌, ℕ, ◌-◌, ◌≤◌, Bool, true, List, length};
-ghost use Rattle.matcher.specs.Nodes.{Node, node_says, node_kid, node, allocated, grown, used, valid, largest};
+ghost use Rattle.matcher.specs.Nodes.{Node, node_says, node_kid, allocated, grown, used, valid, largest};
+ghost use Rattle.matcher.specs.Held.{meant};
 
 use crate::kind::Kind;
+use crate::node::Node;
 use values::refusal::Refusal;
 
 // A store of matchers: it means a list of nodes, a limit of places, and whether it shares.
 pub trait TypeMatcherAlloc {
     const SHARES: bool;
+
+    ghost SHARES: { Bool };
 
     ghost sharing: { Bool };
 
@@ -35,12 +39,14 @@ pub trait TypeMatcherAlloc {
     fn kid(&self, n: usize, i: usize) -> Result<usize, Refusal>
         ensures { result ≡ node_kid (nodes self.now) n i };
 
-    fn alloc(&mut self, kind: Kind, number: u16, kids: &[usize]) -> Result<usize, Refusal>
-        ensures answer { result ≡ allocated sharing (limit self.old) (nodes self.old) (node kind number kids.now) }
-        ensures nodes { nodes self.new ≡ grown (nodes self.old) (node kind number kids.now) result }
+    fn alloc(&mut self, node: Node<'_>) -> Result<usize, Refusal>
+        ensures answer { result ≡ allocated sharing (limit self.old) (nodes self.old) (meant node.entry) }
+        ensures nodes { nodes self.new ≡ grown (nodes self.old) (meant node.entry) result }
         ensures limit { limit self.new ≡ limit self.old };
 
     ghost granted: { (s : Self) → valid (limit s) (nodes s) ≡ true };
 
     ghost small: { (s : Self) → limit s ≤ largest };
+
+    ghost agrees: { SHARES ≡ sharing };
 }

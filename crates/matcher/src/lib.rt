@@ -2,10 +2,8 @@
 #![tactic(auto)]
 
 pub mod alloc;
-mod forms;
 pub mod kind;
-pub mod plain;
+pub mod node;
 mod rows;
-pub mod sharing;
 pub mod stores;
 mod tables;

@@ -1,19 +1,12 @@
 use Rattle.std.proofs.Common.{◌≡◌, ℕ, ◌+◌, ◌≤◌, true, cond, List, [], ◌∷◌, ◌++◌, length, is_ok, vec_items, vec_len, sym, refl, ap, ◌∙◌, subst, ap₂, arith}
 use Rattle.std.proofs.lemmas.Bool.{leb-true}
-use Rattle.matcher.specs.Nodes.{Node, node, all_below, is_granted, valid, used, places}
+use Rattle.matcher.specs.Nodes.{Node, is_granted, valid, used, places}
+use Rattle.matcher.specs.Held.{meant}
 use Rattle.matcher.specs.Tables.{nodes_of, spans, Deep}
 use Rattle.matcher.specs.declared.rows.Row.{Row}
-use Rattle.matcher.proofs.Grows.{granted, valid_push, used_push}
+use Rattle.matcher.proofs.Grows.{valid_push, used_push}
 use Rattle.matcher.proofs.Flats.{long, nodes_push, spans_push, deep_push}
 use Rattle.matcher.proofs.rows.Table.add.Goals as goal
-
-pub depth_over-requires : goal.depth_over-requires
-depth_over-requires c =
-    let s = c.args.self.now in
-    let ns = nodes_of s.rows.items s.pool.items in
-    let g = granted ns (node c.args.kind c.args.number c.args.kids.now) (ap is_granted c.requires.fine) in
-    let e : length ns ≡ vec_len s.rows = omega (arith, long s.rows.items s.pool.items, s.rows.ok.0) in
-    subst (λ n. all_below n c.args.kids.now ≡ true) e g.below
 
 pub push_reserved-requires : goal.push_reserved-requires
 push_reserved-requires c =
@@ -29,16 +22,16 @@ module _ (c : goal.After-extend_from_slice) where
   pool = c.args.self.now.pool.items
 
   abbrev kids : List ℕ
-  kids = c.args.kids.now
+  kids = c.args.node.kids.now
 
   abbrev ns : List Node
   ns = nodes_of rs pool
 
   abbrev made : Node
-  made = node c.args.kind c.args.number kids
+  made = meant c.args.node
 
   abbrev row : Row
-  row = record { kind = c.args.kind; number = c.args.number; depth = c.depth_over.result; first = c.len.result; count = length kids }
+  row = record { kind = c.args.node.kind; number = c.args.node.number; depth = c.depth_over.result; first = c.len-first.result; count = length kids }
 
   pool_long : vec_len c.args.self.now.pool ≡ length pool
   pool_long = omega (arith, c.args.self.now.pool.ok.0)
@@ -59,13 +52,13 @@ module _ (c : goal.After-extend_from_slice) where
   spanned = subst (λ n. spans n rs ≡ true) pool_long c.args.self.now.within
 
   pub nodes : nodes_of (vec_items c.push_reserved.new.self) (vec_items c.extend_from_slice.new.self) ≡ ns ++ made ∷ []
-  nodes = ap₂ nodes_of c.push_reserved.ensures.items items ∙ nodes_push rs pool kids row spanned (c.len.ensures ∙ pool_long) refl
+  nodes = ap₂ nodes_of c.push_reserved.ensures.items items ∙ nodes_push rs pool kids row spanned (c.len-first.ensures ∙ pool_long) refl
 
   pub valid_after : valid c.args.self.now.limit (ns ++ made ∷ []) ≡ true
   valid_after = valid_push c.args.self.now.limit ns made c.args.self.now.granted (ap is_granted c.requires.fine) c.requires.room
 
   pub spans_after : spans (vec_len c.extend_from_slice.new.self) (rs ++ row ∷ []) ≡ true
-  spans_after = spans_push (vec_len c.args.self.now.pool) (vec_len c.extend_from_slice.new.self) rs row c.args.self.now.within (omega (arith, count)) (omega (arith, count, c.len.ensures))
+  spans_after = spans_push (vec_len c.args.self.now.pool) (vec_len c.extend_from_slice.new.self) rs row c.args.self.now.within (omega (arith, count)) (omega (arith, count, c.len-first.ensures))
 
   pub deep_after : Deep (rs ++ row ∷ []) (ns ++ made ∷ [])
   deep_after = deep_push rs ns row made (long rs pool) c.args.self.now.deep c.depth_over.ensures
@@ -86,10 +79,11 @@ invariant_of-self c =
 pub returns : goal.returns
 returns c =
     let s = c.args.self.now in
+    let kids = c.args.node.kids.now in
     let pool_is : vec_len s.pool ≡ length s.pool.items = omega (arith, s.pool.ok.0) in
-    let made_row : Row = record { kind = c.args.kind; number = c.args.number; depth = c.depth_over.result; first = c.len.result; count = length c.args.kids.now } in
+    let made_row : Row = record { kind = c.args.node.kind; number = c.args.node.number; depth = c.depth_over.result; first = c.len-first.result; count = length kids } in
     record {
-      number = omega (arith, c.len-n.ensures, long s.rows.items s.pool.items, s.rows.ok.0);
-      nodes = ap₂ nodes_of c.push_reserved.ensures.items c.in-Ok.ensures.items ∙ nodes_push s.rows.items s.pool.items c.args.kids.now made_row (subst (λ n. spans n s.rows.items ≡ true) pool_is s.within) (c.len.ensures ∙ pool_is) refl;
+      number = omega (arith, long s.rows.items s.pool.items, s.rows.ok.0);
+      nodes = ap₂ nodes_of c.push_reserved.ensures.items (c.extend_from_slice.ensures.items ∙ ap (λ b. cond b (s.pool.items ++ kids) s.pool.items) (ap is_ok c.unwrap.ensures)) ∙ nodes_push s.rows.items s.pool.items kids made_row (subst (λ n. spans n s.rows.items ≡ true) pool_is s.within) (c.len-first.ensures ∙ pool_is) refl;
       limit = refl;
     }

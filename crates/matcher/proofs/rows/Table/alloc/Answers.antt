@@ -1,46 +1,30 @@
-use Rattle.std.proofs.Common.{◌≡◌, ◌+◌, ◌<◌, length, Ok, sym, refl, ap, ◌∙◌, arith}
-use Rattle.std.proofs.lemmas.Bool.{le-leb}
-use Rattle.matcher.specs.Nodes.{node, used, places, place}
-use Rattle.matcher.specs.Tables.{nodes_of}
-use Rattle.matcher.proofs.Grows.{alloc_refused, alloc_full, alloc_new, alloc_found, put_new, put_old, valid_used}
+use Rattle.std.proofs.Common.{◌+◌, ◌<◌, Ok, sym, ap, ◌∙◌, arith}
+use Rattle.std.proofs.lemmas.Result.{err_from_is_err_and}
+use Rattle.matcher.specs.Nodes.{used, places}
+use Rattle.matcher.specs.Held.{nodes_in, meant}
+use Rattle.matcher.proofs.Grows.{alloc_refused, alloc_full, alloc_new, alloc_found, valid_used}
 use Rattle.matcher.proofs.rows.Table.alloc.Goals as goal
 
-pub returns-in-Some : goal.returns-in-Some
-returns-in-Some c =
+pub returns-in_err-check-clause-answer : goal.returns-in_err-check-clause-answer
+returns-in_err-check-clause-answer c =
     let t = c.args.self.now in
-    record { answer = alloc_refused c.args.shares t.limit (nodes_of t.rows.items t.pool.items) (node c.args.kind c.args.number c.args.kids.now) c.in-Some.e c.in-Some.ensures; nodes = refl; limit = refl }
+    let p = err_from_is_err_and c.from_residual.result c.from_residual.ensures.1 in
+    rw (p.1, p.2) (alloc_refused c.args.shares t.limit (nodes_in t) (meant c.args.node) c.in_err-check.field-0.0 (sym c.in_err-check.ensures))
 
-pub returns-then-n-count : goal.returns-then-n-count
-returns-then-n-count c =
+pub returns-then-n-count-clause-answer : goal.returns-then-n-count-clause-answer
+returns-then-n-count-clause-answer c =
     let t = c.args.self.now in
-    let ns = nodes_of t.rows.items t.pool.items in
-    let d = node c.args.kind c.args.number c.args.kids.now in
-    let e : c.place-n.result ≡ place c.args.shares ns d = c.place-n.ensures in
-    let l : c.place-n.result < length ns = omega (arith, c.count.ensures) in
-    record { answer = ap Ok e ∙ alloc_found c.args.shares t.limit ns d c.in_default.ensures (omega (arith, e)); nodes = sym (put_old ns d c.place-n.result l); limit = refl }
+    ap Ok c.place-n.ensures ∙ alloc_found c.args.shares t.limit (nodes_in t) (meant c.args.node) (sym c.in_ok-check.ensures) (omega (arith, c.place-n.ensures, c.count.ensures))
 
-pub returns-then-free_places-kids : goal.returns-then-free_places-kids
-returns-then-free_places-kids c =
+pub returns-then-free_places-node-clause-answer : goal.returns-then-free_places-node-clause-answer
+returns-then-free_places-node-clause-answer c =
     let t = c.args.self.now in
-    let ns = nodes_of t.rows.items t.pool.items in
-    let d = node c.args.kind c.args.number c.args.kids.now in
-    let full : t.limit < used ns + places d = omega (arith, c.free_places.ensures, c.if-free_places-kids.true, valid_used t.limit ns t.granted) in
-    record { answer = alloc_full c.args.shares t.limit ns d c.in_default.ensures (omega (arith, c.place-n.ensures, c.count.ensures)) full; nodes = refl; limit = refl }
+    let ns = nodes_in t in
+    let d = meant c.args.node in
+    let full : t.limit < used ns + places d = omega (arith, c.free_places.ensures, valid_used t.limit ns t.granted) in
+    alloc_full c.args.shares t.limit ns d (sym c.in_ok-check.ensures) (omega (arith, c.place-n.ensures, c.count.ensures)) full
 
-pub add-requires : goal.add-requires
-add-requires c =
+pub returns-clause-answer : goal.returns-clause-answer
+returns-clause-answer c =
     let t = c.args.self.now in
-    let ns = nodes_of t.rows.items t.pool.items in
-    let d = node c.args.kind c.args.number c.args.kids.now in
-    record { fine = sym c.in_default.ensures; room = le-leb (used ns + places d) t.limit (omega (arith, c.free_places.ensures, c.if-free_places-kids.false)) }
-
-pub returns : goal.returns
-returns c =
-    let t = c.args.self.now in
-    let ns = nodes_of t.rows.items t.pool.items in
-    let d = node c.args.kind c.args.number c.args.kids.now in
-    record {
-      answer = ap Ok c.add.ensures.number ∙ alloc_new c.args.shares t.limit ns d c.in_default.ensures (omega (arith, c.place-n.ensures, c.count.ensures)) (omega (arith, c.free_places.ensures, c.if-free_places-kids.false));
-      nodes = c.add.ensures.nodes ∙ sym (put_new ns d c.add.result (omega (arith, c.add.ensures.number)));
-      limit = c.add.ensures.limit;
-    }
+    ap Ok c.add.ensures.number ∙ alloc_new c.args.shares t.limit (nodes_in t) (meant c.args.node) (sym c.in_ok-check.ensures) (omega (arith, c.place-n.ensures, c.count.ensures)) (omega (arith, c.free_places.ensures))
