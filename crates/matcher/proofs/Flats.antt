@@ -1,8 +1,8 @@
 -- The rows of a table and the nodes that they mean. Assumes nothing.
-use Rattle.std.proofs.Common.{◌≡◌, ℕ, zero, suc, ◌+◌, ◌<◌, ◌≤◌, max, Bool, true, false, cond, ◌&&◌, ltb, List, [], ◌∷◌, ◌++◌, length, get_or, take, drop, Some, None, Ok, Err, Result, sym, refl, ap, ◌∙◌, arith, length-drop}
+use Rattle.std.proofs.Common.{◌≡◌, ℕ, zero, suc, ◌+◌, ◌<◌, ◌≤◌, max, Bool, true, false, cond, ◌&&◌, ltb, List, [], ◌∷◌, ◌++◌, length, get_or, take, drop, Some, None, Ok, Err, Result, sym, refl, ap, ◌∙◌, subst, ap₂, arith, length-drop}
 use lib.ListN.{length-map}
 use Rattle.std.specs.List.{fold, list_all, position, position_or_len, range_with_len}
-use Rattle.std.specs.Option.{unwrap_or}
+use Rattle.std.specs.Option.{MatchOption}
 use Rattle.std.proofs.lemmas.List.{get_or-map, length-take-le, take-append-le, drop-append-le, drop_at, take_all, map_push}
 use Rattle.std.proofs.lemmas.List.FromFn.{length-range_with_len, get_or-range_with_len}
 use Rattle.std.proofs.lemmas.List.Recursion.{is_position_or_len}
@@ -27,9 +27,6 @@ pub span_at : (m : ℕ) (rs : List Row) (n : ℕ) → spans m rs ≡ true → n 
 span_at m [] n s l = absurd (omega arith)
 span_at m (r ∷ rs) zero s l = leb-true _ _ (and_parts _ _ s).0
 span_at m (r ∷ rs) (suc n) s l = span_at m rs n (and_parts _ _ s).1 (omega arith)
-
-pub kids_long : (pool : List ℕ) (r : Row) → r.first + r.count ≤ length pool → length (kids_of pool r) ≡ r.count
-kids_long pool r h = length-take-le r.count (drop r.first pool) (omega (arith, length-drop r.first pool))
 
 pub found : (rs : List Row) (n : ℕ) (row : Row) → Ok row ≡ row_says rs n (λ x. x) → (n < length rs) × (row ≡ get_or rs n no_row)
 found rs n row h = by (ltb n (length rs)) refl h
@@ -56,7 +53,7 @@ nodes_later (r ∷ rs) pool more s =
     let p = and_parts _ _ s in
     rw (kids_later pool more r (leb-true _ _ p.0), nodes_later rs pool more p.1) refl
 
-pub nodes_push : (rs : List Row) (pool kids : List ℕ) (r : Row) → spans (length pool) rs ≡ true → r.first ≡ length pool → r.count ≡ length kids → nodes_of (rs ++ r ∷ []) (pool ++ kids) ≡ nodes_of rs pool ++ node r.kind r.number kids ∷ []
+nodes_push : (rs : List Row) (pool kids : List ℕ) (r : Row) → spans (length pool) rs ≡ true → r.first ≡ length pool → r.count ≡ length kids → nodes_of (rs ++ r ∷ []) (pool ++ kids) ≡ nodes_of rs pool ++ node r.kind r.number kids ∷ []
 unfolding nodes_of
 nodes_push rs pool kids r s f c =
     split ∙ ap (λ x. x ++ node_of (pool ++ kids) r ∷ []) (nodes_later rs pool kids s) ∙ ap (λ ks. nodes_of rs pool ++ node r.kind r.number ks ∷ []) last
@@ -66,6 +63,10 @@ nodes_push rs pool kids r s f c =
 
     last : kids_of (pool ++ kids) r ≡ kids
     last = ap (take r.count) (drop_at pool kids r.first (sym f)) ∙ take_all r.count kids (omega arith)
+
+-- one row more, whose kids are the last of the pool
+pub nodes_grow : {rows : List Row} {all : List ℕ} (rs : List Row) (pool kids : List ℕ) (r : Row) (n : ℕ) → rows ≡ rs ++ r ∷ [] → all ≡ pool ++ kids → n ≡ length pool → spans n rs ≡ true → r.first ≡ n → r.count ≡ length kids → nodes_of rows all ≡ nodes_of rs pool ++ node r.kind r.number kids ∷ []
+nodes_grow rs pool kids r n e f l s a b = ap₂ nodes_of e f ∙ nodes_push rs pool kids r (subst (λ m. spans m rs ≡ true) l s) (a ∙ l) b
 
 spans_more : (m k : ℕ) (rs : List Row) → m ≤ k → spans m rs ≡ true → spans k rs ≡ true
 spans_more m k [] l s = refl
@@ -131,12 +132,13 @@ find_in_range ns d =
     and_false true = refl
     and_false false = refl
 
-pub find_by_number : (ns : List Node) (d : Node) (n : ℕ) → n ≡ length ns → unwrap_or (position (is_at ns d) (range_with_len 0 n)) n ≡ find ns d
-find_by_number ns d n l =
+-- the first node that is equal, or none
+pub first_equal : (ns : List Node) (d : Node) (n : ℕ) → n ≡ length ns → MatchOption (position (is_at ns d) (range_with_len 0 n)) (find ns d ≡ length ns) (λ k. (k < length ns) × (k ≡ find ns d))
+first_equal ns d n l =
     let p = position_or_len (is_at ns d) (range_with_len 0 n) in
     let e : p ≡ find ns d = ap (λ m. position_or_len (is_at ns d) (range_with_len 0 m)) l ∙ find_in_range ns d in
     by (ltb p (length (range_with_len 0 n))) refl e
   where
-    by : (b : Bool) → ltb (position_or_len (is_at ns d) (range_with_len 0 n)) (length (range_with_len 0 n)) ≡ b → position_or_len (is_at ns d) (range_with_len 0 n) ≡ find ns d → unwrap_or (cond b (Some (position_or_len (is_at ns d) (range_with_len 0 n))) None) n ≡ find ns d
-    by true h e = e
-    by false h e = omega (arith, ltb-false _ _ h, length-range_with_len 0 n, e, find_low ns d)
+    by : (b : Bool) → ltb (position_or_len (is_at ns d) (range_with_len 0 n)) (length (range_with_len 0 n)) ≡ b → position_or_len (is_at ns d) (range_with_len 0 n) ≡ find ns d → MatchOption (cond b (Some (position_or_len (is_at ns d) (range_with_len 0 n))) None) (find ns d ≡ length ns) (λ k. (k < length ns) × (k ≡ find ns d))
+    by true h e = (omega (arith, ltb-true _ _ h, length-range_with_len 0 n), e)
+    by false h e = omega (arith, ltb-false _ _ h, length-range_with_len 0 n, find_low ns d)

@@ -1,4 +1,4 @@
-ghost use Rattle.std.specs.Prelude.{◌≡◌, ◌+◌, ◌-◌, ◌<◌, ◌≤◌, ◌&&◌, nat_lt, true, [], ◌∷◌, ◌++◌, length, IfOk, MatchResult, Some, None, vec_len, slice_index, slice_index_or};
+ghost use Rattle.std.specs.Prelude.{◌≡◌, ◌+◌, ◌-◌, ◌<◌, ◌≤◌, ◌&&◌, nat_lt, true, [], ◌∷◌, ◌++◌, length, IfOk, MatchResult, MatchOption, Some, None, vec_len, slice_index, slice_index_or};
 ghost use Rattle.matcher.specs.Tables.{kids_of, row_says};
 ghost use Rattle.matcher.specs.Held.{nodes_in, meant};
 ghost use Rattle.matcher.specs.Nodes.{node_at_lem, fault, roomy, all_below, depth_over, depths, find, same_node, place, used, allocated, grown};
@@ -73,6 +73,7 @@ impl Table {
     }
 
     // The first reason, other than room, why a node can't be added.
+    #[tactic(auto, unfolding(crate::specs::Nodes::fault))]
     fn check(&self, node: Node<'_>) -> Result<(), Refusal>
         ensures { MatchResult result (λ _. fault (nodes_in self.now) (meant node.entry) ≡ None) (λ e. fault (nodes_in self.now) (meant node.entry) ≡ Some e) }
     {
@@ -98,24 +99,15 @@ impl Table {
         self.node(n) == Ok(node)
     }
 
-    // The lowest equal node, or the count of nodes.
-    fn find(&self, node: Node<'_>) -> usize
-        ensures { result ≡ find (nodes_in self.now) (meant node.entry) }
-    {
-        let count = self.count();
-        (0..count)
-            .position(|n| self.is_node(n, node))
-            .unwrap_or(count)
-    }
-
-    // Where a node is placed: at the lowest equal one if the store shares, else last.
-    fn place(&self, shares: bool, node: Node<'_>) -> usize
-        ensures { result ≡ place shares (nodes_in self.now) (meant node.entry) }
+    // The lowest equal node, where the store shares.
+    #[tactic(auto, unfolding(crate::specs::Nodes::place))]
+    fn standing(&self, shares: bool, node: Node<'_>) -> Option<usize>
+        ensures { MatchOption result (place shares (nodes_in self.now) (meant node.entry) ≡ length (nodes_in self.now)) (λ n. (n < length (nodes_in self.now)) × (n ≡ place shares (nodes_in self.now) (meant node.entry))) }
     {
         if shares {
-            self.find(node)
+            (0..self.count()).position(|n| self.is_node(n, node))
         } else {
-            self.count()
+            None
         }
     }
 
@@ -143,20 +135,20 @@ impl Table {
             first,
             count: node.kids.len(),
         };
-        self.rows.push_reserved(row);
         self.pool.extend_from_slice(node.kids).unwrap();
+        self.rows.push_reserved(row);
         n
     }
 
     // Answers the node that stands or is added, or the first reason why it can't be.
+    #[tactic(auto, unfolding(crate::specs::Nodes::allocated))]
     pub(crate) fn alloc(&mut self, shares: bool, node: Node<'_>) -> Result<usize, Refusal>
         ensures answer { result ≡ allocated shares self.old.limit (nodes_in self.old) (meant node.entry) }
         ensures nodes { nodes_in self.new ≡ grown (nodes_in self.old) (meant node.entry) result }
         ensures limit { self.new.limit ≡ self.old.limit }
     {
         self.check(node)?;
-        let n = self.place(shares, node);
-        if n < self.count() {
+        if let Some(n) = self.standing(shares, node) {
             return Ok(n);
         }
         if self.free_places() < 1 + node.kids.len() {

@@ -8,6 +8,7 @@ ghost use Rattle.compiling.specs.declared.tasks.Op.TheVariants.{ListOf, SetOf, D
 use compiling::tasks::Op;
 use matcher::alloc::TypeMatcherAlloc;
 use matcher::kind::Kind;
+use matcher::node::Node;
 
 fn is_any_kind(kind: Kind) -> bool
     ensures { result ≡ is_any_kind_lem kind }
@@ -55,7 +56,7 @@ fn write<S: TypeMatcherAlloc>(store: &mut S, kind: Kind, number: u16, kids: &[us
     ensures wrote { Wrote S.TypeMatcherAlloc.sharing (S.TypeMatcherAlloc.nodes store.old) (node kind number kids.now) result (S.TypeMatcherAlloc.nodes store.new) }
     ensures limit { S.TypeMatcherAlloc.limit store.new ≡ S.TypeMatcherAlloc.limit store.old }
 {
-    match store.alloc(kind, number, kids) {
+    match store.alloc(Node { kind, number, kids }) {
         Ok(n) => n,
         Err(_) => unreachable(),
     }
