@@ -98,23 +98,6 @@ pub valid_used : (limit : ℕ) (ns : List Node) → valid limit ns ≡ true → 
 unfolding valid
 valid_used limit ns v = valid_used_from limit [] ns (omega arith) v
 
-module _ (ns : List Node) (d : Node) where
-  pub fault_node : all_below (length ns) d.kids ≡ false → fault ns d ≡ Some NoNode
-  unfolding fault
-  fault_node a = rw a refl
-
-  pub fault_form : all_below (length ns) d.kids ≡ true → formed d ≡ false → fault ns d ≡ Some BadForm
-  unfolding fault
-  fault_form a b = rw (a, b) refl
-
-  pub fault_deep : all_below (length ns) d.kids ≡ true → formed d ≡ true → deepest < depth_over (depths ns) d.kids → fault ns d ≡ Some TooDeep
-  unfolding fault
-  fault_deep a b c = rw (a, b, lt-leb (depth_over (depths ns) d.kids) deepest c) refl
-
-  pub fault_wide : all_below (length ns) d.kids ≡ true → formed d ≡ true → depth_over (depths ns) d.kids ≤ deepest → widest < length d.kids → fault ns d ≡ Some TooWide
-  unfolding fault
-  fault_wide a b c e = rw (a, b, le-leb (depth_over (depths ns) d.kids) deepest c, lt-leb (length d.kids) widest e) refl
-
 pub find_low : (ns : List Node) (d : Node) → find ns d ≤ length ns
 find_low [] d = omega arith
 find_low (x ∷ ns) d = by (same_node x d) (find_low ns d)
@@ -135,26 +118,6 @@ pub place_low : (sh : Bool) (ns : List Node) (d : Node) → place sh ns d ≤ le
 unfolding place
 place_low true ns d = find_low ns d
 place_low false ns d = omega arith
-
-module _ (sh : Bool) (limit : ℕ) (ns : List Node) (d : Node) where
-  pub alloc_refused : (f : Refusal) → Some f ≡ fault ns d → Err f ≡ allocated sh limit ns d
-  unfolding allocated
-  alloc_refused f h = ap (settled sh limit ns d) h
-
-  alloc_by : None ≡ fault ns d → (b : Bool) → (ltb (place sh ns d) (length ns) || roomy limit ns d) ≡ b → allocated sh limit ns d ≡ cond b (Ok (place sh ns d)) (Err NoRoom)
-  unfolding allocated
-  alloc_by h b e = sym (ap (settled sh limit ns d) h) ∙ ap (λ x. cond x (Ok (place sh ns d)) (Err NoRoom)) e
-
-  pub alloc_full : None ≡ fault ns d → length ns ≤ place sh ns d → limit < used ns + places d → Err NoRoom ≡ allocated sh limit ns d
-  alloc_full h p r = sym (alloc_by h false (or_from _ _ (le-ltb _ _ p) (lt-leb _ _ r)))
-
-  pub alloc_new : None ≡ fault ns d → length ns ≤ place sh ns d → used ns + places d ≤ limit → Ok (length ns) ≡ allocated sh limit ns d
-  alloc_new h p r =
-      let e : length ns ≡ place sh ns d = omega (arith, place_low sh ns d) in
-      ap Ok e ∙ sym (alloc_by h true (or_right _ _ (le-leb _ _ r)))
-
-  pub alloc_found : None ≡ fault ns d → place sh ns d < length ns → Ok (place sh ns d) ≡ allocated sh limit ns d
-  alloc_found h p = sym (alloc_by h true (or_left _ _ (lt-ltb _ _ p)))
 
 pub put_new : (ns : List Node) (d : Node) (n : ℕ) → length ns ≤ n → put ns d n ≡ ns ++ d ∷ []
 put_new ns d n h = rw (le-ltb n (length ns) h) refl

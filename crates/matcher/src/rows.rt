@@ -5,6 +5,7 @@ ghost use Rattle.matcher.specs.Nodes.{valid, used, largest};
 use crate::kind::Kind;
 
 // One node: its kids are `count` numbers of the pool, from `first` on.
+// Kids stand in one pool and not in a Vec for each node, since all memory is reserved when a table is made.
 #[derive(Clone, Copy)]
 pub(crate) struct Row {
     pub(crate) kind: Kind,
@@ -15,6 +16,7 @@ pub(crate) struct Row {
 }
 
 // Rows and a pool of kids, both reserved to the limit.
+// Ghost fields and no model: the laws of a store hold of every table, which a model's value alone would not show.
 #[derive(Drop)]
 pub(crate) struct Table {
     pub(crate) rows: Vec<Row>,

@@ -16,6 +16,7 @@ const DEEPEST: u8 = 64;
 const WIDEST: usize = 64;
 
 impl Table {
+    #[tactic(auto, unfolding(crate::specs::Tables::nodes_of, crate::specs::Nodes::valid, crate::specs::Nodes::depths))]
     pub(crate) fn new(heap: Global, limit: u16) -> Result<Table, AllocError>
         ensures { IfOk result (λ t. (nodes_in t ≡ []) × (t.limit ≡ limit)) }
     {
@@ -25,6 +26,7 @@ impl Table {
         Ok(Table { rows, pool, limit })
     }
 
+    #[tactic(auto, using(crate::proofs::Flats::long))]
     pub(crate) fn count(&self) -> usize
         ensures { result ≡ length (nodes_in self.now) }
     {

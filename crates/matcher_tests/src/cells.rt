@@ -30,10 +30,8 @@ pub(crate) fn add(
     mark: i64,
     parts: &[Value],
 ) -> Value {
-    match live.new(Head { ty, flags, mark }, parts) {
-        Ok(v) => v,
-        Err(_) => Value(MISSING),
-    }
+    live.new(Head { ty, flags, mark }, parts)
+        .unwrap_or(Value(MISSING))
 }
 
 pub(crate) fn int(live: &mut LiveHeap<EmptyHeap>, mark: i64) -> Value {

@@ -1,8 +1,15 @@
 // Stores of five places.
-use crate::bench::say;
+use crate::bench::{leaf, over, say};
 use matcher::alloc::TypeMatcherAlloc;
 use matcher::kind::Kind;
+use matcher::node::Node;
 use matcher::stores::{PlainStore, SharingStore};
+
+const INT: Node<'static> = Node {
+    kind: Kind::IsInt,
+    number: 0,
+    kids: &[],
+};
 
 fn sizes<S: TypeMatcherAlloc>(rt: HostRuntime, store: &S) -> anyhow::Result<()> {
     say(rt, "  nodes", Ok(store.count()))?;
@@ -13,39 +20,25 @@ fn sizes<S: TypeMatcherAlloc>(rt: HostRuntime, store: &S) -> anyhow::Result<()> 
 fn fill<S: TypeMatcherAlloc>(rt: HostRuntime, store: &mut S) -> anyhow::Result<()> {
     let shares = S::is_sharing();
     println!(rt; "a store of five places, sharing: {shares}")?;
+    let s = leaf(Kind::IsStr, 0);
+    let none = Kind::IsNone;
+    let both = over(Kind::IsAnyOfTwo, &[0, 1]);
     sizes(rt, store)?;
-    say(rt, "  IsInt", store.alloc(Kind::IsInt, 0, &[]))?;
-    say(rt, "  IsStr", store.alloc(Kind::IsStr, 0, &[]))?;
+    say(rt, "  IsInt", store.alloc(INT))?;
+    say(rt, "  IsStr", store.alloc(s))?;
     sizes(rt, store)?;
-    say(
-        rt,
-        "  IsAnyOf of three",
-        store.alloc(Kind::IsAnyOf, 0, &[0, 1, 0]),
-    )?;
-    say(
-        rt,
-        "  IsAnyOfTwo",
-        store.alloc(Kind::IsAnyOfTwo, 0, &[0, 1]),
-    )?;
+    let three = over(Kind::IsAnyOf, &[0, 1, 0]);
+    say(rt, "  IsAnyOf of three", store.alloc(three))?;
+    say(rt, "  IsAnyOfTwo", store.alloc(both))?;
     sizes(rt, store)?;
-    say(rt, "  IsStr again", store.alloc(Kind::IsStr, 0, &[]))?;
-    say(
-        rt,
-        "  IsAnyOfTwo again",
-        store.alloc(Kind::IsAnyOfTwo, 0, &[0, 1]),
-    )?;
-    say(
-        rt,
-        "  its kids the other way",
-        store.alloc(Kind::IsAnyOfTwo, 0, &[1, 0]),
-    )?;
-    say(rt, "  IsNone", store.alloc(Kind::IsNone, 0, &[]))?;
-    say(rt, "  IsNone numbered 1", store.alloc(Kind::IsNone, 1, &[]))?;
-    say(
-        rt,
-        "  IsListOf a missing node",
-        store.alloc(Kind::IsListOf, 0, &[3]),
-    )?;
+    say(rt, "  IsStr again", store.alloc(s))?;
+    say(rt, "  IsAnyOfTwo again", store.alloc(both))?;
+    let turned = over(Kind::IsAnyOfTwo, &[1, 0]);
+    say(rt, "  its kids the other way", store.alloc(turned))?;
+    say(rt, "  IsNone", store.alloc(leaf(none, 0)))?;
+    say(rt, "  IsNone numbered 1", store.alloc(leaf(none, 1)))?;
+    let missing = over(Kind::IsListOf, &[3]);
+    say(rt, "  IsListOf a missing node", store.alloc(missing))?;
     sizes(rt, store)
 }
 
@@ -54,10 +47,10 @@ pub(crate) fn plain(rt: HostRuntime) -> anyhow::Result<()> {
     let mut store = PlainStore::new(heap, 5)?;
     fill(rt, &mut store)?;
     let mut again = PlainStore::new(heap, 2)?;
-    say(rt, "IsInt", again.alloc(Kind::IsInt, 0, &[]))?;
-    say(rt, "IsInt once more", again.alloc(Kind::IsInt, 0, &[]))?;
+    say(rt, "IsInt", again.alloc(INT))?;
+    say(rt, "IsInt once more", again.alloc(INT))?;
     let mut none = PlainStore::new(heap, 0)?;
-    say(rt, "IsInt without a place", none.alloc(Kind::IsInt, 0, &[]))
+    say(rt, "IsInt without a place", none.alloc(INT))
 }
 
 pub(crate) fn sharing(rt: HostRuntime) -> anyhow::Result<()> {
@@ -65,7 +58,7 @@ pub(crate) fn sharing(rt: HostRuntime) -> anyhow::Result<()> {
     let mut store = SharingStore::new(heap, 5)?;
     fill(rt, &mut store)?;
     let mut largest = SharingStore::new(heap, 65535)?;
-    say(rt, "IsInt", largest.alloc(Kind::IsInt, 0, &[]))?;
-    say(rt, "IsInt once more", largest.alloc(Kind::IsInt, 0, &[]))?;
+    say(rt, "IsInt", largest.alloc(INT))?;
+    say(rt, "IsInt once more", largest.alloc(INT))?;
     say(rt, "free of 65535", Ok(largest.free()))
 }

@@ -1,5 +1,5 @@
 // Nodes 64 deep, and with 64 kids.
-use crate::bench::{customs, say, tell};
+use crate::bench::{customs, over, say, tell};
 use crate::cells::{int, list, own_list, text, tuple};
 use matcher::alloc::TypeMatcherAlloc;
 use matcher::kind::Kind;
@@ -13,10 +13,7 @@ use values::value::Value;
 const MISSING: usize = 9999;
 
 fn node(store: &mut SharingStore, kind: Kind, kids: &[usize]) -> usize {
-    match store.alloc(kind, 0, kids) {
-        Ok(n) => n,
-        Err(_) => MISSING,
-    }
+    store.alloc(over(kind, kids)).unwrap_or(MISSING)
 }
 
 // The node in so many IsListOf.
@@ -46,12 +43,10 @@ pub(crate) fn deep(rt: HostRuntime) -> anyhow::Result<()> {
     let own_lists = wrapped(&mut store, any_list, 63);
     say(rt, "64 deep", Ok(ints))?;
     say(rt, "64 deep too", Ok(own_lists))?;
-    say(rt, "65 deep", store.alloc(Kind::IsListOf, 0, &[ints]))?;
-    say(
-        rt,
-        "65 deep of two",
-        store.alloc(Kind::IsAnyOfTwo, 0, &[any_int, ints]),
-    )?;
+    let found = store.alloc(over(Kind::IsListOf, &[ints]));
+    say(rt, "65 deep", found)?;
+    let found = store.alloc(over(Kind::IsAnyOfTwo, &[any_int, ints]));
+    say(rt, "65 deep of two", found)?;
     deep_runs(rt, &store, ints, own_lists)
 }
 
@@ -68,18 +63,17 @@ fn deep_runs(
     let own = own_list(&mut live);
     let lists = nested(&mut live, seven, 63);
     let fewer = nested(&mut live, seven, 62);
-    if let Some(c) = customs(heap)? {
-        let found = run(ints, lists, &live, store, &c);
-        tell(rt, "63 lists of an int", found)?;
-        let found = run(ints, fewer, &live, store, &c);
-        tell(rt, "62 lists of an int", found)?;
-        let found = run(ints, own, &live, store, &c);
-        tell(rt, "a list of itself, at an int", found)?;
-        let found = run(own_lists, own, &live, store, &c);
-        tell(rt, "a list of itself, at a list", found)?;
-        let found = run(own_lists, lists, &live, store, &c);
-        tell(rt, "63 lists of an int, at a list", found)?;
-    }
+    let c = customs(heap)?;
+    let found = run(ints, lists, &live, store, &c);
+    tell(rt, "63 lists of an int", found)?;
+    let found = run(ints, fewer, &live, store, &c);
+    tell(rt, "62 lists of an int", found)?;
+    let found = run(ints, own, &live, store, &c);
+    tell(rt, "a list of itself, at an int", found)?;
+    let found = run(own_lists, own, &live, store, &c);
+    tell(rt, "a list of itself, at a list", found)?;
+    let found = run(own_lists, lists, &live, store, &c);
+    tell(rt, "63 lists of an int, at a list", found)?;
     Ok(())
 }
 
@@ -95,13 +89,13 @@ pub(crate) fn wide(rt: HostRuntime) -> anyhow::Result<()> {
     let deep = wrapped(&mut store, any_int, 63);
     say(rt, "64 kids", Ok(elems))?;
     say(rt, "64 sides", Ok(union))?;
-    let found = store.alloc(Kind::IsTupleElems, 0, &[any_int; 65]);
+    let found = store.alloc(over(Kind::IsTupleElems, &[any_int; 65]));
     say(rt, "65 kids", found)?;
-    let found = store.alloc(Kind::IsListOf, 0, &[any_int; 65]);
+    let found = store.alloc(over(Kind::IsListOf, &[any_int; 65]));
     say(rt, "65 kids of a list", found)?;
-    let found = store.alloc(Kind::IsAnyOf, 0, &[deep; 65]);
+    let found = store.alloc(over(Kind::IsAnyOf, &[deep; 65]));
     say(rt, "65 kids, 64 deep", found)?;
-    let found = store.alloc(Kind::IsAnyOf, 0, &[MISSING; 65]);
+    let found = store.alloc(over(Kind::IsAnyOf, &[MISSING; 65]));
     say(rt, "65 missing kids", found)?;
     wide_runs(rt, &store, elems, union)
 }
@@ -119,13 +113,12 @@ fn wide_runs(
     let s = text(&mut live);
     let full = tuple(&mut live, &[seven; 64]);
     let fewer = tuple(&mut live, &[seven; 63]);
-    if let Some(c) = customs(heap)? {
-        tell(rt, "a tuple of 64", run(elems, full, &live, store, &c))?;
-        tell(rt, "a tuple of 63", run(elems, fewer, &live, store, &c))?;
-        let found = run(union, s, &live, store, &c);
-        tell(rt, "the last of 64 sides", found)?;
-        let found = run(union, full, &live, store, &c);
-        tell(rt, "none of 64 sides", found)?;
-    }
+    let c = customs(heap)?;
+    tell(rt, "a tuple of 64", run(elems, full, &live, store, &c))?;
+    tell(rt, "a tuple of 63", run(elems, fewer, &live, store, &c))?;
+    let found = run(union, s, &live, store, &c);
+    tell(rt, "the last of 64 sides", found)?;
+    let found = run(union, full, &live, store, &c);
+    tell(rt, "none of 64 sides", found)?;
     Ok(())
 }
