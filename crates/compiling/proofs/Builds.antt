@@ -1,13 +1,14 @@
 -- Compiling a type never meets a refusal, and leaves one result. Assumes nothing.
 use Rattle.std.proofs.Common.{◌≡◌, ℕ, zero, suc, ◌+◌, ◌-◌, ◌*◌, ◌<◌, ◌≤◌, Bool, true, false, cond, ◌&&◌, ◌||◌, eqb, List, [], ◌∷◌, ◌++◌, map, length, ℤ, Some, None, Option, sym, refl, ap, ◌∙◌, subst, append_assoc, arith}
+use Rattle.std.proofs.Math.Bool.{and-true, or-false}
 use lib.ListN.{length-map}
 use Rattle.matcher.specs.Nodes.{plain_type_number}
-use Rattle.std.proofs.lemmas.Bool.{and_from, and_parts, le-leb, eqb-true}
+use Rattle.std.proofs.lemmas.Bool.{and_from, and_parts, le-leb, eqb-true, cond_both}
 use Rattle.matcher.specs.declared.kind.Kind.TheVariants.{IsAny, IsNever, IsList, IsTupleOf, IsTupleElems, IsTupleElems0, IsTupleElems1, IsTupleElems2, IsDict, IsSet, IsAnyOfTwo, IsCallable, IsType, IsIterable, IsNone, Custom}
 use Rattle.membership.specs.Rows.{Alt, any, plain, iter, callable, kind, list, tuple, tuple_of, dict, custom, set_of, Row, row, parts, deepest, depth_alts}
 use Rattle.membership.specs.Readings.{just_any, plain_of, plain_alt}
 use Rattle.compiling.proofs.Fines.{number_ok, all_under, AltsFine, Fines}
-use Rattle.compiling.specs.Code.{Codes, code, leaf, type_id, value_op, item_op, beside_none_op, code_item, code_all, code_pair, code_tuple, code_each, code_basic, code_beside, code_none_or, code_alts, code_union}
+use Rattle.compiling.specs.Code.{Codes, code, leaf, type_id, value_op, item_op, beside_none_op, code_part, code_over, code_all, code_pair, code_tuple, code_basic, code_beside, code_none_or, code_alts, code_union}
 use Rattle.compiling.specs.Written.{is_none}
 use Rattle.compiling.specs.declared.tasks.Op.{Op}
 use Rattle.compiling.specs.declared.tasks.Op.TheVariants.{Write, ListOf, SetOf, DictOf, AnyOfTwo, AnyOf}
@@ -17,25 +18,24 @@ use Rattle.values.specs.Cells.{cell_at}
 use Rattle.custom.specs.Worlds.{World}
 use Rattle.membership.specs.Members.{member}
 use Rattle.compiling.proofs.Members.{has, some_has}
-use Rattle.compiling.proofs.Says.{op_says, all_yes, entries_yes, and_one}
-use Rattle.compiling.proofs.Members.{member_is, plain_has, any_has, some_map, or_none}
+use Rattle.compiling.proofs.Says.{op_says, all_yes, entries_yes}
+use Rattle.compiling.proofs.Members.{member_is, plain_has, any_has, some_map}
 use Rattle.compiling.proofs.Runs.{OpFine, Makes, makes_nil, makes_append, makes_deeper, makes_op}
 
-fine_cond : (b : Bool) (o p : Op) → OpFine o 0 → OpFine p 0 → OpFine (cond b o p) 0
-fine_cond true o p f g = f
-fine_cond false o p f g = g
+abbrev Leaf : Op → Type 0
+Leaf o = OpFine o 0
 
 type_id_fine : (n : ℕ) → plain_type_number n ≡ true → OpFine (type_id n) 0
 type_id_fine n h = (refl, h)
 
-value_fine : (n : ℕ) → plain_type_number n ≡ true → OpFine (value_op n) 0
-value_fine n h = fine_cond (eqb n 1) _ _ (refl, refl) (fine_cond (eqb n 2) _ _ (refl, refl) (fine_cond (eqb n 3) _ _ (refl, refl) (fine_cond (eqb n 4) _ _ (refl, refl) (type_id_fine n h))))
-
 item_fine : (n : ℕ) → plain_type_number n ≡ true → OpFine (item_op n) 0
-item_fine n h = fine_cond (eqb n 4) _ _ (refl, refl) (type_id_fine n h)
+item_fine n h = cond_both (eqb n 4) _ _ Leaf (λ _. (refl, refl)) (λ _. type_id_fine n h)
+
+value_fine : (n : ℕ) → plain_type_number n ≡ true → OpFine (value_op n) 0
+value_fine n h = cond_both (eqb n 1) _ _ Leaf (λ _. (refl, refl)) (λ _. cond_both (eqb n 2) _ _ Leaf (λ _. (refl, refl)) (λ _. cond_both (eqb n 3) _ _ Leaf (λ _. (refl, refl)) (λ _. item_fine n h)))
 
 beside_fine : (n : ℕ) → plain_type_number n ≡ true → OpFine (beside_none_op n) 0
-beside_fine n h = fine_cond (eqb n 4) _ _ (refl, refl) (fine_cond (eqb n 1) _ _ (refl, refl) (type_id_fine n h))
+beside_fine n h = cond_both (eqb n 4) _ _ Leaf (λ _. (refl, refl)) (λ _. cond_both (eqb n 1) _ _ Leaf (λ _. (refl, refl)) (λ _. type_id_fine n h))
 
 plain_by : (t : ℕ) (xs : List Alt) → AltsFine t xs → number_ok (plain_of xs) ≡ true
 plain_by t [] f = refl
@@ -59,21 +59,22 @@ module _ (W : World) where
   abbrev ty_test : ℕ → Test
   ty_test n v = eqb (cell_at W.cells v).ty n
 
-  cond_says : (b : Bool) (o p : Op) (q : Test) → (b ≡ true → op_says W o [] ≡ q) → op_says W p [] ≡ q → op_says W (cond b o p) [] ≡ q
-  cond_says true o p q f g = f refl
-  cond_says false o p q f g = g
+  abbrev Tests : Test → Op → Type 0
+  Tests q o = op_says W o [] ≡ q
 
   num : (n m : ℕ) → eqb n m ≡ true → ty_test m ≡ ty_test n
   num n m e = ap ty_test (sym (eqb-true n m e))
 
-  value_says : (n : ℕ) → op_says W (value_op n) [] ≡ ty_test n
-  value_says n = cond_says (eqb n 1) _ _ (ty_test n) (num n 1) (cond_says (eqb n 2) _ _ (ty_test n) (num n 2) (cond_says (eqb n 3) _ _ (ty_test n) (num n 3) (cond_says (eqb n 4) _ _ (ty_test n) (num n 4) refl)))
+  item_says : (n : ℕ) → Tests (ty_test n) (item_op n)
+  item_says n = cond_both (eqb n 4) _ _ (Tests (ty_test n)) (num n 4) (λ _. refl)
 
-  item_says : (n : ℕ) → op_says W (item_op n) [] ≡ ty_test n
-  item_says n = cond_says (eqb n 4) _ _ (ty_test n) (num n 4) refl
+  value_says : (n : ℕ) → Tests (ty_test n) (value_op n)
+  value_says n =
+      let T = Tests (ty_test n) in
+      cond_both (eqb n 1) _ _ T (num n 1) (λ _. cond_both (eqb n 2) _ _ T (num n 2) (λ _. cond_both (eqb n 3) _ _ T (num n 3) (λ _. item_says n)))
 
-  beside_says : (n : ℕ) → op_says W (beside_none_op n) [] ≡ ty_test n
-  beside_says n = cond_says (eqb n 4) _ _ (ty_test n) (num n 4) (cond_says (eqb n 1) _ _ (ty_test n) (num n 1) refl)
+  beside_says : (n : ℕ) → Tests (ty_test n) (beside_none_op n)
+  beside_says n = cond_both (eqb n 4) _ _ (Tests (ty_test n)) (num n 4) (λ _. cond_both (eqb n 1) _ _ (Tests (ty_test n)) (num n 1) (λ _. refl))
 
 module _ (rows : List Row) (w : ℕ → Bool) (sound : Fines rows) (W : World) (opens : Opens w W) (sh : Bool) (limit : ℕ) where
   abbrev C : Codes
@@ -90,10 +91,6 @@ module _ (rows : List Row) (w : ℕ → Bool) (sound : Fines rows) (W : World) (
 
   makes_leaf : (d : ℕ) (o : Op) → OpFine o 0 → M (d + 1) (op_says W o [] ∷ []) (o ∷ [])
   makes_leaf d o f = makes_deeper W sh limit 1 (d + 1) (op_says W o [] ∷ []) (o ∷ []) (omega arith) (makes_op W sh limit 0 [] [] o (omega arith) (omega arith) f (makes_nil W sh limit 0))
-
-  makes_cond : (b : Bool) (d : ℕ) (ps : List Test) (c e : List Op) → (b ≡ true → M d ps c) → (b ≡ false → M d ps e) → M d ps (cond b c e)
-  makes_cond true d ps c e m n = m refl
-  makes_cond false d ps c e m n = n refl
 
   -- the same test
   as_test : (d : ℕ) (p q : Test) (c : List Op) → ((v : ℕ) → p v ≡ q v) → M d (p ∷ []) c → M d (q ∷ []) c
@@ -112,12 +109,12 @@ module _ (rows : List Row) (w : ℕ → Bool) (sound : Fines rows) (W : World) (
   any_test p l e v = ap (λ (q : Test). q v) (member_is W rows sound p) ∙ any_has W P (row rows p).alts e v
 
   any_all : (p n : ℕ) → p < length rows → just_any (row rows p).alts ≡ true → (v : ℕ) → ty_test W n v ≡ (ty_test W n v && all (P p) (cell_at W.cells v).parts)
-  any_all p n l e v = sym (ap (λ b. ty_test W n v && b) (all_yes (P p) (cell_at W.cells v).parts (any_test p l e)) ∙ and_one (ty_test W n v))
+  any_all p n l e v = sym (ap (λ b. ty_test W n v && b) (all_yes (P p) (cell_at W.cells v).parts (any_test p l e)) ∙ and-true (ty_test W n v))
 
   any_entries : (k u : ℕ) → k < length rows → u < length rows → (just_any (row rows k).alts && just_any (row rows u).alts) ≡ true → (v : ℕ) → ty_test W 6 v ≡ (ty_test W 6 v && entries (P k) (P u) (cell_at W.cells v).parts)
   any_entries k u l m e v =
       let s = and_parts (just_any (row rows k).alts) (just_any (row rows u).alts) e in
-      sym (ap (λ b. ty_test W 6 v && b) (entries_yes (P k) (P u) (cell_at W.cells v).parts (any_test k l s.0) (any_test u m s.1)) ∙ and_one (ty_test W 6 v))
+      sym (ap (λ b. ty_test W 6 v && b) (entries_yes (P k) (P u) (cell_at W.cells v).parts (any_test k l s.0) (any_test u m s.1)) ∙ and-true (ty_test W 6 v))
 
   module _ (t h : ℕ) (l : t < length rows) (ih : (p : ℕ) → p < t → M (2 * (row rows p).deep) (P p ∷ []) (C p)) (hl : h ≤ 31) where
     part : (p : ℕ) → p < t → (row rows p).deep ≤ h → M (2 * h) (P p ∷ []) (C p)
@@ -135,16 +132,25 @@ module _ (rows : List Row) (w : ℕ → Bool) (sound : Fines rows) (W : World) (
     leafy : (o : Op) → OpFine o 0 → M (2 * h + 1) (op_says W o [] ∷ []) (o ∷ [])
     leafy o f = makes_leaf (2 * h) o f
 
-    item : (p : ℕ) (o : Option ℕ) → plain_of (row rows p).alts ≡ o → p < t → (row rows p).deep ≤ h → M (2 * h) (P p ∷ []) (code_item C p o)
-    item p (Some n) e u d = as_test (2 * h) _ (P p) (item_op n ∷ []) (λ v. ap (λ (q : Test). q v) (item_says W n) ∙ sym (plain_test p n (inside p u) e v)) (small (item_op n) (some_h p u d) (item_fine n (sym (ap number_ok e) ∙ plain_ok p (inside p u))))
-    item p None e u d = part p u d
+    by_part : (op : ℕ → Op) → ((n : ℕ) → op_says W (op n) [] ≡ ty_test W n) → ((n : ℕ) → plain_type_number n ≡ true → OpFine (op n) 0) → (p : ℕ) (o : Option ℕ) → plain_of (row rows p).alts ≡ o → p < t → (row rows p).deep ≤ h → M (2 * h) (P p ∷ []) (code_part op C p o)
+    by_part op says fine p (Some n) e u d = as_test (2 * h) _ (P p) (op n ∷ []) (λ v. ap (λ (q : Test). q v) (says n) ∙ sym (plain_test p n (inside p u) e v)) (small (op n) (some_h p u d) (fine n (sym (ap number_ok e) ∙ plain_ok p (inside p u))))
+    by_part op says fine p None e u d = part p u d
 
-    each : (p : ℕ) (o : Option ℕ) → plain_of (row rows p).alts ≡ o → p < t → (row rows p).deep ≤ h → M (2 * h) (P p ∷ []) (code_each C p o)
-    each p (Some n) e u d = as_test (2 * h) _ (P p) (type_id n ∷ []) (λ v. sym (plain_test p n (inside p u) e v)) (small (type_id n) (some_h p u d) (type_id_fine n (sym (ap number_ok e) ∙ plain_ok p (inside p u))))
-    each p None e u d = part p u d
+    item : (p : ℕ) (o : Option ℕ) → plain_of (row rows p).alts ≡ o → p < t → (row rows p).deep ≤ h → M (2 * h) (P p ∷ []) (code_part item_op C p o)
+    item = by_part item_op (item_says W) item_fine
+
+    each : (p : ℕ) (o : Option ℕ) → plain_of (row rows p).alts ≡ o → p < t → (row rows p).deep ≤ h → M (2 * h) (P p ∷ []) (code_part type_id C p o)
+    each = by_part type_id (λ n. refl) type_id_fine
 
     op1 : (p : Test) (c : List Op) (o : Op) → OpFine o 1 → M (2 * h) (p ∷ []) c → M (2 * h + 1) (op_says W o (p ∷ []) ∷ []) (c ++ o ∷ [])
     op1 p c o f m = makes_op W sh limit (2 * h) (p ∷ []) c o (omega arith) (omega arith) f m
+
+    -- all parts of a value with the type number n
+    over : (n p : ℕ) (whole o : Op) (op : ℕ → Op) → op_says W whole [] ≡ ty_test W n → OpFine whole 0 → op_says W o (P p ∷ []) ≡ (λ v. ty_test W n v && all (P p) (cell_at W.cells v).parts) → OpFine o 1 → p < t → M (2 * h) (P p ∷ []) (code_part op C p (plain_of (row rows p).alts)) → M (2 * h + 1) ((λ v. ty_test W n v && all (P p) (cell_at W.cells v).parts) ∷ []) (code_over whole o op rows C p)
+    over n p whole o op says fine says_all fine_all u m =
+        cond_both (just_any (row rows p).alts) _ _ (M (2 * h + 1) ((λ v. ty_test W n v && all (P p) (cell_at W.cells v).parts) ∷ []))
+        (λ e. as_test (2 * h + 1) _ _ _ (λ v. ap (λ (q : Test). q v) says ∙ any_all p n (inside p u) e v) (leafy whole fine))
+        (λ e. subst (λ (q : Test). M (2 * h + 1) (q ∷ []) (code_part op C p (plain_of (row rows p).alts) ++ o ∷ [])) says_all (op1 (P p) (code_part op C p (plain_of (row rows p).alts)) o fine_all m))
 
     op2 : (p q : Test) (c e : List Op) (o : Op) → OpFine o 2 → M (2 * h) (p ∷ []) c → M (2 * h) (q ∷ []) e → M (2 * h + 1) (op_says W o (p ∷ q ∷ []) ∷ []) ((c ++ e) ++ o ∷ [])
     op2 p q c e o f m n = makes_op W sh limit (2 * h) (p ∷ q ∷ []) (c ++ e) o (omega arith) (omega arith) f (makes_append W sh limit (2 * h) (p ∷ []) (q ∷ []) c e m n)
@@ -173,45 +179,27 @@ module _ (rows : List Row) (w : ℕ → Bool) (sound : Fines rows) (W : World) (
     basics (iter p) u ok k d = leafy (leaf IsIterable) (refl, refl)
     basics callable u ok k d = leafy (leaf IsCallable) (refl, refl)
     basics kind u ok k d = leafy (leaf IsType) (refl, refl)
-    basics (list p) u ok k d = makes_cond (just_any (row rows p).alts) (2 * h + 1) (H (list p) ∷ []) _ _ (λ e. as_test (2 * h + 1) _ (H (list p)) _ (any_all p 5 (inside p u.0) e) (leafy (leaf IsList) (refl, refl))) (λ e. op1 (P p) (code_item C p (plain_of (row rows p).alts)) ListOf refl (item p (plain_of (row rows p).alts) refl u.0 (omega arith)))
+    basics (list p) u ok k d = over 5 p (leaf IsList) ListOf item_op refl (refl, refl) refl refl u.0 (item p (plain_of (row rows p).alts) refl u.0 (omega arith))
     basics (tuple ps) u ok k d = tuples ps u d k
-    basics (tuple_of p) u ok k d = makes_cond (just_any (row rows p).alts) (2 * h + 1) (H (tuple_of p) ∷ []) _ _ (λ e. as_test (2 * h + 1) _ (H (tuple_of p)) _ (any_all p 8 (inside p u.0) e) (leafy (type_id 8) (refl, refl))) (λ e. op1 (P p) (code_each C p (plain_of (row rows p).alts)) (Write IsTupleOf 0 1) (refl, refl) (each p (plain_of (row rows p).alts) refl u.0 (omega arith)))
+    basics (tuple_of p) u ok k d = over 8 p (type_id 8) (Write IsTupleOf 0 1) type_id refl (refl, refl) refl (refl, refl) u.0 (each p (plain_of (row rows p).alts) refl u.0 (omega arith))
     basics (dict k v) u ok n d =
         let o = plain_of (row rows k).alts in
-        makes_cond (just_any (row rows k).alts && just_any (row rows v).alts) (2 * h + 1) (H (dict k v) ∷ []) _ _ (λ e. as_test (2 * h + 1) _ (H (dict k v)) _ (any_entries k v (inside k u.0) (inside v u.1.0) e) (leafy (leaf IsDict) (refl, refl)))
-        (λ e. subst (M (2 * h + 1) (H (dict k v) ∷ [])) (append_assoc (code_item C k o) (C v) (DictOf ∷ [])) (op2 (P k) (P v) (code_item C k o) (C v) DictOf refl (item k o refl u.0 (omega arith)) (part v u.1.0 (omega arith))))
+        cond_both (just_any (row rows k).alts && just_any (row rows v).alts) _ _ (M (2 * h + 1) (H (dict k v) ∷ [])) (λ e. as_test (2 * h + 1) _ (H (dict k v)) _ (any_entries k v (inside k u.0) (inside v u.1.0) e) (leafy (leaf IsDict) (refl, refl)))
+        (λ e. subst (M (2 * h + 1) (H (dict k v) ∷ [])) (append_assoc (code_part item_op C k o) (C v) (DictOf ∷ [])) (op2 (P k) (P v) (code_part item_op C k o) (C v) DictOf refl (item k o refl u.0 (omega arith)) (part v u.1.0 (omega arith))))
     basics (custom n) u ok k d = by (w n) refl
       where
         by : (b : Bool) → w n ≡ b → M (2 * h + 1) (H (custom n) ∷ []) (cond b (leaf IsAny) (Write Custom n 0) ∷ [])
         by true e = as_test (2 * h + 1) _ (H (custom n)) (leaf IsAny ∷ []) (λ v. sym (opens n e (cell_at W.cells v).ty (cell_at W.cells v).flags (cell_at W.cells v).mark)) (leafy (leaf IsAny) (refl, refl))
         by false e = leafy (Write Custom n 0) (refl, refl)
-    basics (set_of p) u ok k d = makes_cond (just_any (row rows p).alts) (2 * h + 1) (H (set_of p) ∷ []) _ _ (λ e. as_test (2 * h + 1) _ (H (set_of p)) _ (any_all p 7 (inside p u.0) e) (leafy (leaf IsSet) (refl, refl))) (λ e. op1 (P p) (code_item C p (plain_of (row rows p).alts)) SetOf refl (item p (plain_of (row rows p).alts) refl u.0 (omega arith)))
+    basics (set_of p) u ok k d = over 7 p (leaf IsSet) SetOf item_op refl (refl, refl) refl refl u.0 (item p (plain_of (row rows p).alts) refl u.0 (omega arith))
 
     besides : (a : Alt) → all_under t (parts a) → number_ok (plain_alt a) ≡ true → length (parts a) ≤ 64 → deepest rows (parts a) ≤ h → M (2 * h + 1) (H a ∷ []) (code_beside rows w C a)
-    besides any u ok k d = basics any u ok k d
     besides (plain n) u ok k d = as_test (2 * h + 1) _ (H (plain n)) (beside_none_op n ∷ []) (λ v. ap (λ (q : Test). q v) (beside_says W n)) (leafy (beside_none_op n) (beside_fine n ok))
-    besides (iter p) u ok k d = basics (iter p) u ok k d
-    besides callable u ok k d = basics callable u ok k d
-    besides kind u ok k d = basics kind u ok k d
-    besides (list p) u ok k d = basics (list p) u ok k d
-    besides (tuple ps) u ok k d = basics (tuple ps) u ok k d
-    besides (tuple_of p) u ok k d = basics (tuple_of p) u ok k d
-    besides (dict a b) u ok k d = basics (dict a b) u ok k d
-    besides (custom n) u ok k d = basics (custom n) u ok k d
-    besides (set_of p) u ok k d = basics (set_of p) u ok k d
+    besides a u ok k d = basics a u ok k d
 
     none_is : (a : Alt) → is_none a ≡ true → (v : ℕ) → H a v ≡ ty_test W 3 v
-    none_is any e v = let z : ◌≡◌ {A = ℕ} 0 1 = cc in absurd (omega arith)
     none_is (plain n) e v = ap (λ j. eqb (cell_at W.cells v).ty j) (eqb-true n 3 e)
-    none_is (iter p) e v = let z : ◌≡◌ {A = ℕ} 0 1 = cc in absurd (omega arith)
-    none_is callable e v = let z : ◌≡◌ {A = ℕ} 0 1 = cc in absurd (omega arith)
-    none_is kind e v = let z : ◌≡◌ {A = ℕ} 0 1 = cc in absurd (omega arith)
-    none_is (list p) e v = let z : ◌≡◌ {A = ℕ} 0 1 = cc in absurd (omega arith)
-    none_is (tuple ps) e v = let z : ◌≡◌ {A = ℕ} 0 1 = cc in absurd (omega arith)
-    none_is (tuple_of p) e v = let z : ◌≡◌ {A = ℕ} 0 1 = cc in absurd (omega arith)
-    none_is (dict a b) e v = let z : ◌≡◌ {A = ℕ} 0 1 = cc in absurd (omega arith)
-    none_is (custom n) e v = let z : ◌≡◌ {A = ℕ} 0 1 = cc in absurd (omega arith)
-    none_is (set_of p) e v = let z : ◌≡◌ {A = ℕ} 0 1 = cc in absurd (omega arith)
+    none_is _ e v = cc
 
     top2 : (p q : Test) (c e : List Op) (o : Op) → OpFine o 2 → M (2 * h + 1) (p ∷ []) c → M (2 * h + 1) (q ∷ []) e → M (2 * h + 1 + 1) (op_says W o (p ∷ q ∷ []) ∷ []) ((c ++ e) ++ o ∷ [])
     top2 p q c e o f m n = makes_op W sh limit (2 * h + 1) (p ∷ q ∷ []) (c ++ e) o (omega arith) (omega arith) f (makes_append W sh limit (2 * h + 1) (p ∷ []) (q ∷ []) c e m n)
@@ -228,13 +216,13 @@ module _ (rows : List Row) (w : ℕ → Bool) (sound : Fines rows) (W : World) (
 
     unions : (xs : List Alt) → AltsFine t xs → length xs ≤ 64 → depth_alts rows xs ≤ h + 1 → M (2 * h + 1 + 1) (some_has W P xs ∷ []) (code_union rows w C xs)
     unions [] f k d = lift _ _ (leafy (leaf IsNever) (refl, refl))
-    unions (a ∷ []) f k d = as_test (2 * h + 1 + 1) (H a) (some_has W P (a ∷ [])) _ (λ v. sym (or_none (H a v))) (lift (H a) _ (basics a f.0.0 f.0.1 f.0.2 (omega arith)))
+    unions (a ∷ []) f k d = as_test (2 * h + 1 + 1) (H a) (some_has W P (a ∷ [])) _ (λ v. sym (or-false (H a v))) (lift (H a) _ (basics a f.0.0 f.0.1 f.0.2 (omega arith)))
     unions (a ∷ (b ∷ [])) f k d =
         let ha : deepest rows (parts a) ≤ h = omega arith in
         let hb : deepest rows (parts b) ≤ h = omega arith in
         let T = some_has W P (a ∷ (b ∷ [])) in
-        makes_cond (is_none a) (2 * h + 1 + 1) (T ∷ []) _ _ (λ e. as_test (2 * h + 1 + 1) _ T _ (λ v. ap (λ c. c || (H b v || false)) (sym (none_is a e v))) (none_or b (besides b f.1.0.0 f.1.0.1 f.1.0.2 hb)))
-        (λ _. makes_cond (is_none b) (2 * h + 1 + 1) (T ∷ []) _ _ (λ e. as_test (2 * h + 1 + 1) _ T _ (λ v. ap (λ c. c || (H a v || false)) (sym (none_is b e v)) ∙ or_swap (H b v) (H a v)) (none_or a (besides a f.0.0 f.0.1 f.0.2 ha)))
+        cond_both (is_none a) _ _ (M (2 * h + 1 + 1) (T ∷ [])) (λ e. as_test (2 * h + 1 + 1) _ T _ (λ v. ap (λ c. c || (H b v || false)) (sym (none_is a e v))) (none_or b (besides b f.1.0.0 f.1.0.1 f.1.0.2 hb)))
+        (λ _. cond_both (is_none b) _ _ (M (2 * h + 1 + 1) (T ∷ [])) (λ e. as_test (2 * h + 1 + 1) _ T _ (λ v. ap (λ c. c || (H a v || false)) (sym (none_is b e v)) ∙ or_swap (H b v) (H a v)) (none_or a (besides a f.0.0 f.0.1 f.0.2 ha)))
         (λ _. subst (M (2 * h + 1 + 1) (T ∷ [])) (append_assoc (code_basic rows w C a) (code_basic rows w C b) (AnyOfTwo ∷ [])) (top2 (H a) (H b) (code_basic rows w C a) (code_basic rows w C b) AnyOfTwo refl (basics a f.0.0 f.0.1 f.0.2 ha) (basics b f.1.0.0 f.1.0.1 f.1.0.2 hb))))
     unions (a ∷ (b ∷ (c ∷ xs))) f k d =
         let ys = a ∷ (b ∷ (c ∷ xs)) in

@@ -1,22 +1,22 @@
 -- A type's code is made of the codes of its parts. Assumes nothing.
-use Rattle.std.proofs.Common.{◌≡◌, ℕ, zero, suc, ◌<◌, ◌≤◌, Bool, true, false, cond, ◌&&◌, List, [], ◌∷◌, ◌++◌, length, Some, None, Option, refl, ap, ◌∙◌, ap₂, arith, length-append}
+use Rattle.std.proofs.Common.{◌≡◌, ℕ, zero, suc, ◌<◌, ◌≤◌, Bool, cond, ◌&&◌, List, [], ◌∷◌, ◌++◌, length, Some, None, Option, refl, ap, ◌∙◌, ap₂, arith, length-append}
+use Rattle.std.proofs.lemmas.Bool.{cond_both}
 use Rattle.matcher.specs.declared.kind.Kind.TheVariants.{IsList, IsSet, IsDict, IsTupleElems, IsTupleElems1, IsTupleElems2, IsTupleOf, IsAnyOfTwo, IsNone}
 use Rattle.membership.specs.Rows.{Alt, any, plain, iter, callable, kind, list, tuple, tuple_of, dict, custom, set_of, Row, row, parts}
 use Rattle.membership.specs.Readings.{just_any, plain_of}
 use Rattle.compiling.proofs.Fines.{all_under, AltsFine, Fines}
-use Rattle.compiling.specs.Code.{Codes, leaf, type_id, code_item, code_all, code_pair, code_tuple, code_each, code_basic, code_beside, code_none_or, code_two, code_alts, code_union, code_by, code}
+use Rattle.compiling.specs.Code.{Codes, leaf, type_id, item_op, code_part, code_over, code_all, code_pair, code_tuple, code_basic, code_beside, code_none_or, code_two, code_alts, code_union, code_by, code}
 use Rattle.compiling.specs.Written.{is_none}
 use Rattle.compiling.specs.declared.tasks.Op.{Op}
 use Rattle.compiling.specs.declared.tasks.Op.TheVariants.{Write, ListOf, SetOf, DictOf, AnyOfTwo, AnyOf}
 
 module _ (rows : List Row) (w : ℕ → Bool) (C D : Codes) (t : ℕ) (same : (p : ℕ) → p < t → C p ≡ D p) where
-  item_same : (p : ℕ) (o : Option ℕ) → p < t → code_item C p o ≡ code_item D p o
-  item_same p (Some n) l = refl
-  item_same p None l = same p l
+  part_same : (op : ℕ → Op) (p : ℕ) (o : Option ℕ) → p < t → code_part op C p o ≡ code_part op D p o
+  part_same op p (Some n) l = refl
+  part_same op p None l = same p l
 
-  each_same : (p : ℕ) (o : Option ℕ) → p < t → code_each C p o ≡ code_each D p o
-  each_same p (Some n) l = refl
-  each_same p None l = same p l
+  over_same : (whole o : Op) (op : ℕ → Op) (p : ℕ) → p < t → code_over whole o op rows C p ≡ code_over whole o op rows D p
+  over_same whole o op p l = ap (λ c. cond (just_any (row rows p).alts) (whole ∷ []) (c ++ o ∷ [])) (part_same op p (plain_of (row rows p).alts) l)
 
   all_same : (ps : List ℕ) → all_under t ps → code_all C ps ≡ code_all D ps
   all_same [] u = refl
@@ -39,25 +39,16 @@ module _ (rows : List Row) (w : ℕ → Bool) (C D : Codes) (t : ℕ) (same : (p
   basic_same (iter p) u = refl
   basic_same callable u = refl
   basic_same kind u = refl
-  basic_same (list p) u = ap (λ c. cond (just_any (row rows p).alts) (leaf IsList ∷ []) (c ++ ListOf ∷ [])) (item_same p (plain_of (row rows p).alts) u.0)
+  basic_same (list p) u = over_same (leaf IsList) ListOf item_op p u.0
   basic_same (tuple ps) u = tuple_same ps u
-  basic_same (tuple_of p) u = ap (λ c. cond (just_any (row rows p).alts) (type_id 8 ∷ []) (c ++ Write IsTupleOf 0 1 ∷ [])) (each_same p (plain_of (row rows p).alts) u.0)
-  basic_same (dict k v) u = ap₂ (λ c d. cond (just_any (row rows k).alts && just_any (row rows v).alts) (leaf IsDict ∷ []) (c ++ (d ++ DictOf ∷ []))) (item_same k (plain_of (row rows k).alts) u.0) (same v u.1.0)
+  basic_same (tuple_of p) u = over_same (type_id 8) (Write IsTupleOf 0 1) type_id p u.0
+  basic_same (dict k v) u = ap₂ (λ c d. cond (just_any (row rows k).alts && just_any (row rows v).alts) (leaf IsDict ∷ []) (c ++ (d ++ DictOf ∷ []))) (part_same item_op k (plain_of (row rows k).alts) u.0) (same v u.1.0)
   basic_same (custom n) u = refl
-  basic_same (set_of p) u = ap (λ c. cond (just_any (row rows p).alts) (leaf IsSet ∷ []) (c ++ SetOf ∷ [])) (item_same p (plain_of (row rows p).alts) u.0)
+  basic_same (set_of p) u = over_same (leaf IsSet) SetOf item_op p u.0
 
   beside_same : (a : Alt) → all_under t (parts a) → code_beside rows w C a ≡ code_beside rows w D a
-  beside_same any u = basic_same any u
   beside_same (plain n) u = refl
-  beside_same (iter p) u = basic_same (iter p) u
-  beside_same callable u = basic_same callable u
-  beside_same kind u = basic_same kind u
-  beside_same (list p) u = basic_same (list p) u
-  beside_same (tuple ps) u = basic_same (tuple ps) u
-  beside_same (tuple_of p) u = basic_same (tuple_of p) u
-  beside_same (dict k v) u = basic_same (dict k v) u
-  beside_same (custom n) u = basic_same (custom n) u
-  beside_same (set_of p) u = basic_same (set_of p) u
+  beside_same a u = basic_same a u
 
   none_or_same : (a : Alt) → all_under t (parts a) → code_none_or rows w C a ≡ code_none_or rows w D a
   none_or_same a u = ap (λ c. leaf IsNone ∷ (c ++ Write IsAnyOfTwo 0 2 ∷ [])) (beside_same a u)
@@ -92,9 +83,8 @@ module _ (rows : List Row) (w : ℕ → Bool) (sound : Fines rows) where
 ends_some : (os : List Op) (o : Op) → 1 ≤ length (os ++ o ∷ [])
 ends_some os o = omega (arith, length-append os (o ∷ []))
 
-cond_some : (b : Bool) (xs ys : List Op) → 1 ≤ length xs → 1 ≤ length ys → 1 ≤ length (cond b xs ys)
-cond_some true xs ys p q = p
-cond_some false xs ys p q = q
+abbrev Some_steps : List Op → Type 0
+Some_steps os = 1 ≤ length os
 
 module _ (rows : List Row) (w : ℕ → Bool) (C : Codes) where
   tuple_some : (ts : List ℕ) → 1 ≤ length (code_tuple rows C ts)
@@ -103,8 +93,11 @@ module _ (rows : List Row) (w : ℕ → Bool) (C : Codes) where
   tuple_some (x ∷ (y ∷ [])) = ends_some (code_pair C x y (plain_of (row rows x).alts) (plain_of (row rows y).alts)) _
   tuple_some (x ∷ (y ∷ (z ∷ zs))) = ends_some (code_all C (x ∷ (y ∷ (z ∷ zs)))) _
 
-  dict_some : (k v : ℕ) → 1 ≤ length (code_item C k (plain_of (row rows k).alts) ++ (C v ++ DictOf ∷ []))
-  dict_some k v = omega (arith, length-append (code_item C k (plain_of (row rows k).alts)) (C v ++ DictOf ∷ []), ends_some (C v) DictOf)
+  over_some : (whole o : Op) (op : ℕ → Op) (p : ℕ) → 1 ≤ length (code_over whole o op rows C p)
+  over_some whole o op p = cond_both (just_any (row rows p).alts) _ _ Some_steps (λ _. omega arith) (λ _. ends_some (code_part op C p (plain_of (row rows p).alts)) o)
+
+  dict_some : (k v : ℕ) → 1 ≤ length (code_part item_op C k (plain_of (row rows k).alts) ++ (C v ++ DictOf ∷ []))
+  dict_some k v = omega (arith, length-append (code_part item_op C k (plain_of (row rows k).alts)) (C v ++ DictOf ∷ []), ends_some (C v) DictOf)
 
   pub basic_some : (a : Alt) → 1 ≤ length (code_basic rows w C a)
   basic_some any = omega arith
@@ -112,15 +105,15 @@ module _ (rows : List Row) (w : ℕ → Bool) (C : Codes) where
   basic_some (iter p) = omega arith
   basic_some callable = omega arith
   basic_some kind = omega arith
-  basic_some (list p) = cond_some (just_any (row rows p).alts) _ _ (omega arith) (ends_some (code_item C p (plain_of (row rows p).alts)) ListOf)
+  basic_some (list p) = over_some (leaf IsList) ListOf item_op p
   basic_some (tuple ps) = tuple_some ps
-  basic_some (tuple_of p) = cond_some (just_any (row rows p).alts) _ _ (omega arith) (ends_some (code_each C p (plain_of (row rows p).alts)) _)
-  basic_some (dict k v) = cond_some (just_any (row rows k).alts && just_any (row rows v).alts) _ _ (omega arith) (dict_some k v)
+  basic_some (tuple_of p) = over_some (type_id 8) (Write IsTupleOf 0 1) type_id p
+  basic_some (dict k v) = cond_both (just_any (row rows k).alts && just_any (row rows v).alts) _ _ Some_steps (λ _. omega arith) (λ _. dict_some k v)
   basic_some (custom n) = omega arith
-  basic_some (set_of p) = cond_some (just_any (row rows p).alts) _ _ (omega arith) (ends_some (code_item C p (plain_of (row rows p).alts)) SetOf)
+  basic_some (set_of p) = over_some (leaf IsSet) SetOf item_op p
 
   two_some : (a b : Alt) → 1 ≤ length (code_two rows w C a b)
-  two_some a b = cond_some (is_none a) _ _ (omega arith) (cond_some (is_none b) _ _ (omega arith) (omega (arith, length-append (code_basic rows w C a) (code_basic rows w C b ++ AnyOfTwo ∷ []), basic_some a)))
+  two_some a b = cond_both (is_none a) _ _ Some_steps (λ _. omega arith) (λ _. cond_both (is_none b) _ _ Some_steps (λ _. omega arith) (λ _. omega (arith, length-append (code_basic rows w C a) (code_basic rows w C b ++ AnyOfTwo ∷ []), basic_some a)))
 
   pub union_some : (xs : List Alt) → 1 ≤ length (code_union rows w C xs)
   union_some [] = omega arith

@@ -2,7 +2,7 @@
 use Rattle.std.proofs.Common.{◌≡◌, ℕ, ◌+◌, ◌<◌, ◌≤◌, Bool, true, false, ltb, List, [], ◌∷◌, length, Some, None, Option, refl, arith}
 use Rattle.std.proofs.lemmas.Bool.{and_parts, or_parts, ltb-true, ltb-false}
 use Rattle.matcher.specs.Nodes.{plain_type_number}
-use Rattle.membership.specs.Rows.{Alt, any, plain, iter, callable, kind, list, tuple, tuple_of, dict, custom, set_of, Row, row, never, parts, depth_alts, weight_alts, one_less, all_below_lem, below, stands, each, any_of, plainly, too_long, too_deep, too_wide, too_heavy, Sound}
+use Rattle.membership.specs.Rows.{Alt, plain, tuple, Row, row, never, parts, depth_alts, weight_alts, one_less, all_below_lem, below, stands, each, any_of, plainly, too_long, too_deep, too_wide, too_heavy, Sound}
 use Rattle.membership.specs.Readings.{plain_alt}
 use Rattle.membership.proofs.Kepts.{row_under, row_form}
 use Rattle.membership.proofs.Laws.{kept_of}
@@ -39,30 +39,12 @@ under_of n [] h = tt
 under_of n (p ∷ ps) h = let a = and_parts (ltb p n) (all_below_lem n ps) h in (ltb-true p n a.0, under_of n ps a.1)
 
 number_of : (a : Alt) → plainly a ≡ true → number_ok (plain_alt a) ≡ true
-number_of any h = refl
 number_of (plain n) h = h
-number_of (iter t) h = refl
-number_of callable h = refl
-number_of kind h = refl
-number_of (list t) h = refl
-number_of (tuple ts) h = refl
-number_of (tuple_of t) h = refl
-number_of (dict k v) h = refl
-number_of (custom n) h = refl
-number_of (set_of t) h = refl
+number_of _ h = refl
 
 parts_few : (a : Alt) → too_long a ≡ false → length (parts a) ≤ 64
-parts_few any h = omega arith
-parts_few (plain n) h = omega arith
-parts_few (iter t) h = omega arith
-parts_few callable h = omega arith
-parts_few kind h = omega arith
-parts_few (list t) h = omega arith
 parts_few (tuple ts) h = ltb-false 64 (length ts) h
-parts_few (tuple_of t) h = omega arith
-parts_few (dict k v) h = omega arith
-parts_few (custom n) h = omega arith
-parts_few (set_of t) h = omega arith
+parts_few _ h = omega arith
 
 alts_fine : (n : ℕ) (xs : List Alt) → below n xs ≡ true → each plainly xs ≡ true → any_of too_long xs ≡ false → AltsFine n xs
 alts_fine n [] b p l = tt

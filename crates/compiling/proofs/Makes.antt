@@ -1,5 +1,5 @@
 -- Compiling a type: where it starts, and the root that it leaves. Assumes nothing.
-use Rattle.std.proofs.Common.{◌≡◌, ℕ, suc, ◌+◌, ◌*◌, ◌<◌, ◌≤◌, Bool, true, List, [], ◌∷◌, ◌++◌, length, get_or, sym, refl, ap, ◌∙◌, subst, arith, length-append}
+use Rattle.std.proofs.Common.{◌≡◌, ℕ, suc, ◌+◌, ◌-◌, ◌*◌, ◌<◌, ◌≤◌, Bool, true, List, [], ◌∷◌, length, get_or, Some, Option, sym, refl, ap, ap₂, ◌∙◌, subst, arith}
 use Rattle.matcher.specs.Nodes.{Node, valid, used}
 use Rattle.membership.specs.Rows.{Row, row}
 use Rattle.compiling.proofs.Fines.{Fines}
@@ -13,6 +13,10 @@ use Rattle.membership.specs.Members.{member}
 use Rattle.compiling.proofs.Writes.{Good}
 use Rattle.compiling.proofs.Weighs.{light_by}
 use Rattle.compiling.proofs.Builds.{Opens, makes_by}
+use Rattle.compiling.proofs.Turns.{ended}
+use Rattle.compiling.proofs.Writtens.{code_writes}
+use Rattle.compiling.specs.Written.{written}
+use Rattle.std.proofs.lemmas.List.{nil_from_length}
 
 -- an empty heap, where every custom says yes
 abbrev empty : World
@@ -21,36 +25,27 @@ empty = record { cells = []; says = λ n t f m. true }
 pub record Start (rows : List Row) (w : ℕ → Bool) (sh : Bool) (limit : ℕ) (ns : List Node) (t : ℕ) : Type 0 where
   pub safe : Safe limit sh (code rows w t) (state ns [])
   pub light : length (code rows w t) ≤ 4096
-  pub root : (n : ℕ) × ((execs sh (code rows w t) (state ns [])).results ≡ n ∷ [])
 
 pub start : (rows : List Row) (w : ℕ → Bool) (sh : Bool) (limit : ℕ) (ns : List Node) (t : ℕ) → Fines rows → t < length rows → valid limit ns ≡ true → used ns + 2 * (row rows t).heavy ≤ limit → Start rows w sh limit ns t
 start rows w sh limit ns t sound l v room =
     let light = light_by rows w sound (suc t) t (omega arith) l in
     let m = makes_by rows w sound empty (λ n e t f k. refl) sh limit (suc t) t (omega arith) l ns [] v (omega (arith, light)) in
-    record { safe = m.safe; light = omega (arith, light, (sound.at t l).light); root = one m.kids m.count (ap (λ s. s.results) m.runs) }
-  where
-    one : (ks : List ℕ) → length ks ≡ 1 → (execs sh (code rows w t) (state ns [])).results ≡ ks → (n : ℕ) × ((execs sh (code rows w t) (state ns [])).results ≡ n ∷ [])
-    one [] e h = absurd (omega arith)
-    one (k ∷ []) e h = (k, h)
-    one (k ∷ (j ∷ ks)) e h = absurd (omega arith)
+    record { safe = m.safe; light = omega (arith, light, (sound.at t l).light) }
 
 pub going_start : (rows : List Row) (w : ℕ → Bool) (sh : Bool) (limit : ℕ) (ns : List Node) (t : ℕ) → Fines rows → t < length rows → valid limit ns ≡ true → used ns + 2 * (row rows t).heavy ≤ limit → (tasks : List Task) (rs : List ℕ) → tasks ≡ Ty t ∷ [] → rs ≡ [] → Going rows w sh limit (execs sh (code rows w t) (state ns [])) tasks (state ns rs)
 going_start rows w sh limit ns t sound l v room tasks rs e f =
     let s = start rows w sh limit ns t sound l v room in
     subst (λ xs. Going rows w sh limit (execs sh (code rows w t) (state ns [])) xs (state ns rs)) (sym e) (subst (λ r. Going rows w sh limit (execs sh (code rows w t) (state ns [])) (Ty t ∷ []) (state ns r)) (sym f) (record { fine = (l, tt); safe = s.safe; ends = refl; light = omega (arith, s.light); few = omega (arith, s.light) }))
 
-root_by : (front : List ℕ) (n m : ℕ) → front ++ n ∷ [] ≡ m ∷ [] → front ≡ []
-root_by [] n m e = refl
-root_by (x ∷ xs) n m e = absurd (omega (arith, ap length e, length-append xs (n ∷ [])))
+-- with no task left, the type is written
+pub arrived : (rows : List Row) (w : ℕ → Bool) (sh : Bool) (limit : ℕ) (ns : List Node) (t : ℕ) → Fines rows → t < length rows → (tasks : List Task) (st : State) → length tasks ≡ 0 → Going rows w sh limit (execs sh (code rows w t) (state ns [])) tasks st → st ≡ state (written sh rows w t ns).nodes ((written sh rows w t ns).root ∷ [])
+arrived rows w sh limit ns t sound l tasks st e g = ended rows w sh limit (execs sh (code rows w t) (state ns [])) st tasks (nil_from_length tasks e) g ∙ code_writes sh rows w sound t l ns
 
-pub root_is : (end : State) (ns : List Node) (rs front : List ℕ) (n m : ℕ) → state ns rs ≡ end → end.results ≡ m ∷ [] → rs ≡ front ++ n ∷ [] → state ns (n ∷ []) ≡ end
-root_is end ns rs front n m e f g =
-    let h : front ++ n ∷ [] ≡ m ∷ [] = sym g ∙ ap (λ s. s.results) e ∙ f in
-    let k : rs ≡ n ∷ [] = g ∙ ap (λ x. x ++ n ∷ []) (root_by front n m h) in
-    ap (state ns) (sym k) ∙ e
-
-pub root_some : (end : State) (ns : List Node) (rs : List ℕ) (m : ℕ) → state ns rs ≡ end → end.results ≡ m ∷ [] → length rs ≡ 0 → ⊥
-root_some end ns rs m e f g = omega (arith, g, ap length (ap (λ s. s.results) e ∙ f))
+-- the last of one result
+pub last_of : (rs : List ℕ) (len m : ℕ) (o : Option ℕ) → rs ≡ m ∷ [] → len ≡ length rs → (0 < len → o ≡ Some (get_or rs (len - 1) 0)) → o ≡ Some m
+last_of rs len m o e l h =
+    let one : len - 1 ≡ 0 = omega (arith, ap length e) in
+    h (omega (arith, ap length e)) ∙ ap Some (ap₂ (λ xs n. get_or xs n 0) e one)
 
 pub root_means : (rows : List Row) (w : ℕ → Bool) (sh : Bool) (limit : ℕ) (ns : List Node) (t : ℕ) → Fines rows → t < length rows → valid limit ns ≡ true → used ns + 2 * (row rows t).heavy ≤ limit → (W : World) → Opens w W → (ns' : List Node) (n : ℕ) → state ns' (n ∷ []) ≡ execs sh (code rows w t) (state ns []) → (v : ℕ) → accepts W ns' n v ≡ member rows W t v
 root_means rows w sh limit ns t sound l v room W opens ns' n e x =

@@ -1,5 +1,6 @@
 -- The values of a type, by those of its parts, in the words of the nodes. Assumes nothing.
 use Rattle.std.proofs.Common.{◌≡◌, ℕ, ◌/◌, ◌%◌, Bool, true, false, ◌&&◌, ◌||◌, eqb, List, [], ◌∷◌, map, Some, sym, refl, ap, ◌∙◌, ap₂, arith}
+use Rattle.std.proofs.Math.Bool.{and-true, or-false}
 use Rattle.values.specs.Cells.{Cell, cell_at}
 use Rattle.custom.specs.Worlds.{World}
 use Rattle.matcher.specs.Meaning.{Test, all, entries, placed, some}
@@ -46,13 +47,9 @@ and_turn true false true d = refl
 and_turn true false false d = refl
 and_turn false b c d = refl
 
-and_true : (a : Bool) → (a && true) ≡ ((a && true) && true)
-and_true true = refl
-and_true false = refl
-
 entries_each : (p q : Test) (xs : List ℕ) → entries p q xs ≡ (each p (keys xs) && each q (values xs))
 entries_each p q [] = refl
-entries_each p q (k ∷ []) = and_true (p k)
+entries_each p q (k ∷ []) = sym (and-true (p k && true))
 entries_each p q (k ∷ (v ∷ rest)) = ap (λ b. p k && (q v && b)) (entries_each p q rest) ∙ and_turn (p k) (q v) (each p (keys rest)) (each q (values rest))
 
 over_one : (n : ℕ) → n ≡ n / 1
@@ -79,46 +76,24 @@ some_is W P (a ∷ xs) v = ap₂ ◌||◌ (has_is W P a v (cell_at W.cells v)) (
 pub member_is : (W : World) (rows : List Row) → Fines rows → (t : ℕ) → member rows W t ≡ some_has W (member rows W) (row rows t).alts
 member_is W rows fine t = λ i v. (belongs.member_is rows W fine.standing t v ∙ sym (some_is W (member rows W) (row rows t).alts v)) i
 
-pub or_none : (b : Bool) → (b || false) ≡ b
-or_none true = refl
-or_none false = refl
-
 module _ (W : World) (P : ℕ → Test) where
   plain_one : (a : Alt) (n : ℕ) → plain_alt a ≡ Some n → (v : ℕ) → has W P a v ≡ eqb (cell_at W.cells v).ty n
-  plain_one any n e v = let z : ◌≡◌ {A = ℕ} 0 1 = cc in absurd (omega arith)
   plain_one (plain m) n e v = let q : m ≡ n = cc in ap (λ j. eqb (cell_at W.cells v).ty j) q
-  plain_one (iter p) n e v = let z : ◌≡◌ {A = ℕ} 0 1 = cc in absurd (omega arith)
-  plain_one callable n e v = let z : ◌≡◌ {A = ℕ} 0 1 = cc in absurd (omega arith)
-  plain_one kind n e v = let z : ◌≡◌ {A = ℕ} 0 1 = cc in absurd (omega arith)
-  plain_one (list p) n e v = let z : ◌≡◌ {A = ℕ} 0 1 = cc in absurd (omega arith)
-  plain_one (tuple ps) n e v = let z : ◌≡◌ {A = ℕ} 0 1 = cc in absurd (omega arith)
-  plain_one (tuple_of p) n e v = let z : ◌≡◌ {A = ℕ} 0 1 = cc in absurd (omega arith)
-  plain_one (dict a b) n e v = let z : ◌≡◌ {A = ℕ} 0 1 = cc in absurd (omega arith)
-  plain_one (custom m) n e v = let z : ◌≡◌ {A = ℕ} 0 1 = cc in absurd (omega arith)
-  plain_one (set_of p) n e v = let z : ◌≡◌ {A = ℕ} 0 1 = cc in absurd (omega arith)
+  plain_one _ n e v = cc
 
   pub plain_has : (xs : List Alt) (n : ℕ) → plain_of xs ≡ Some n → (v : ℕ) → some_has W P xs v ≡ eqb (cell_at W.cells v).ty n
-  plain_has [] n e v = let z : ◌≡◌ {A = ℕ} 0 1 = cc in absurd (omega arith)
-  plain_has (a ∷ []) n e v = or_none (has W P a v) ∙ plain_one a n e v
-  plain_has (a ∷ (b ∷ xs)) n e v = let z : ◌≡◌ {A = ℕ} 0 1 = cc in absurd (omega arith)
+  plain_has [] n e v = cc
+  plain_has (a ∷ []) n e v = or-false (has W P a v) ∙ plain_one a n e v
+  plain_has (a ∷ (b ∷ xs)) n e v = cc
 
   any_alt : (a : Alt) → is_any a ≡ true → (v : ℕ) → has W P a v ≡ true
   any_alt any e v = refl
-  any_alt (plain n) e v = let z : ◌≡◌ {A = ℕ} 0 1 = cc in absurd (omega arith)
-  any_alt (iter p) e v = let z : ◌≡◌ {A = ℕ} 0 1 = cc in absurd (omega arith)
-  any_alt callable e v = let z : ◌≡◌ {A = ℕ} 0 1 = cc in absurd (omega arith)
-  any_alt kind e v = let z : ◌≡◌ {A = ℕ} 0 1 = cc in absurd (omega arith)
-  any_alt (list p) e v = let z : ◌≡◌ {A = ℕ} 0 1 = cc in absurd (omega arith)
-  any_alt (tuple ps) e v = let z : ◌≡◌ {A = ℕ} 0 1 = cc in absurd (omega arith)
-  any_alt (tuple_of p) e v = let z : ◌≡◌ {A = ℕ} 0 1 = cc in absurd (omega arith)
-  any_alt (dict a b) e v = let z : ◌≡◌ {A = ℕ} 0 1 = cc in absurd (omega arith)
-  any_alt (custom n) e v = let z : ◌≡◌ {A = ℕ} 0 1 = cc in absurd (omega arith)
-  any_alt (set_of p) e v = let z : ◌≡◌ {A = ℕ} 0 1 = cc in absurd (omega arith)
+  any_alt _ e v = cc
 
   pub any_has : (xs : List Alt) → just_any xs ≡ true → (v : ℕ) → some_has W P xs v ≡ true
-  any_has [] e v = let z : ◌≡◌ {A = ℕ} 0 1 = cc in absurd (omega arith)
-  any_has (a ∷ []) e v = or_none (has W P a v) ∙ any_alt a e v
-  any_has (a ∷ (b ∷ xs)) e v = let z : ◌≡◌ {A = ℕ} 0 1 = cc in absurd (omega arith)
+  any_has [] e v = cc
+  any_has (a ∷ []) e v = or-false (has W P a v) ∙ any_alt a e v
+  any_has (a ∷ (b ∷ xs)) e v = cc
 
   pub some_map : (xs : List Alt) (v : ℕ) → some (map (has W P) xs) v ≡ some_has W P xs v
   some_map [] v = refl

@@ -2,13 +2,13 @@
 use Rattle.std.proofs.Common.{◌≡◌, ℕ, ◌+◌, ◌-◌, ◌*◌, ◌<◌, ◌≤◌, Bool, true, false, cond, ◌&&◌, eqb, ltb, List, [], ◌∷◌, ◌++◌, length, get_or, drop, Some, None, Option, sym, refl, ap, subst, ap₂, append_assoc, arith, length-append}
 use Rattle.std.proofs.lemmas.List.{drop_more, drop_all}
 use Rattle.std.proofs.lemmas.Bool.{ltb-true, ltb-false, ne_eqb}
-use Rattle.matcher.specs.declared.kind.Kind.TheVariants.{IsList, IsSet, IsDict, IsAny, IsNever, IsIterable, IsCallable, IsType, IsTupleElems, IsTupleElems0, IsTupleElems1, IsTupleElems2, IsTupleOf, IsAnyOfTwo, IsNone, Custom as CustomKind}
+use Rattle.matcher.specs.declared.kind.Kind.TheVariants.{IsList, IsSet, IsDict, IsAny, IsNever, IsIterable, IsCallable, IsType, IsTupleElems, IsTupleElems0, IsTupleElems1, IsTupleElems2, IsTupleOf, IsAnyOfTwo, IsNone}
 use Rattle.membership.specs.Rows.{Alt, any, plain, iter, callable, kind, list, tuple, tuple_of, dict, custom, set_of, Row, row, parts}
 use Rattle.membership.specs.Readings.{alt_at, just_any, plain_of, elems}
 use Rattle.compiling.proofs.Fines.{all_under, Fines}
-use Rattle.compiling.specs.Code.{Codes, leaf, type_id, value_op, code_item, code_list, code_set, code_dict, code_all, code_pair, code_tuple, code_each, code_tuple_of, code_basic, code_beside, code_none_or, code_two, code_alts, code_union, code}
+use Rattle.compiling.specs.Code.{Codes, leaf, type_id, value_op, item_op, custom_op, code_part, code_over, code_dict, code_all, code_pair, code_tuple, code_basic, code_beside, code_none_or, code_two, code_alts, code_union, code}
 use Rattle.compiling.specs.Written.{is_none}
-use Rattle.compiling.specs.Tasks.{ops_of, pending, cost, load, Fine, AllFine, listed, leaf_task, item_task, each_task, expand_list, expand_set, expand_dict, expand_pair, elems_by, expand_tuple_of, expand_basic, beside_task, expand_none_or, expand_two, expand_union, expand_alternatives, expand_elements, expand}
+use Rattle.compiling.specs.Tasks.{ops_of, pending, cost, load, Fine, AllFine, listed, leaf_task, part_task, expand_over, expand_dict, expand_pair, elems_by, expand_basic, beside_task, expand_none_or, expand_two, expand_union, expand_alternatives, expand_elements, expand}
 use Rattle.compiling.specs.declared.tasks.Op.{Op}
 use Rattle.compiling.specs.declared.tasks.Op.TheVariants.{Write, ListOf, SetOf, DictOf, AnyOfTwo, AnyOf}
 use Rattle.compiling.specs.declared.tasks.Task.{Task}
@@ -53,49 +53,28 @@ module _ (rows : List Row) (w : ℕ → Bool) (sound : Fines rows) where
   ty_cost : (p : ℕ) → p < length rows → cost rows w C (Ty p) ≤ 5 * length (C p)
   ty_cost p l = omega arith
 
-  item_ops : (p : ℕ) (o : Option ℕ) → ops_of rows w C (item_task p o) ≡ code_item C p o
-  item_ops p (Some n) = refl
-  item_ops p None = refl
+  module _ (op : ℕ → Op) (p : ℕ) where
+    part_ops : (o : Option ℕ) → ops_of rows w C (part_task op p o) ≡ code_part op C p o
+    part_ops (Some n) = refl
+    part_ops None = refl
 
-  item_cost : (p : ℕ) (o : Option ℕ) → cost rows w C (item_task p o) ≤ 5 * length (code_item C p o)
-  item_cost p (Some n) = omega arith
-  item_cost p None = omega arith
+    part_cost : (o : Option ℕ) → cost rows w C (part_task op p o) ≤ 5 * length (code_part op C p o)
+    part_cost (Some n) = omega arith
+    part_cost None = omega arith
 
-  item_fine : (p : ℕ) (o : Option ℕ) → p < length rows → Fine rows (item_task p o)
-  item_fine p (Some n) l = tt
-  item_fine p None l = l
+    part_fine : (o : Option ℕ) → p < length rows → Fine rows (part_task op p o)
+    part_fine (Some n) l = tt
+    part_fine None l = l
 
-  each_ops : (p : ℕ) (o : Option ℕ) → ops_of rows w C (each_task p o) ≡ code_each C p o
-  each_ops p (Some n) = refl
-  each_ops p None = refl
-
-  each_cost : (p : ℕ) (o : Option ℕ) → cost rows w C (each_task p o) ≤ 5 * length (code_each C p o)
-  each_cost p (Some n) = omega arith
-  each_cost p None = omega arith
-
-  each_fine : (p : ℕ) (o : Option ℕ) → p < length rows → Fine rows (each_task p o)
-  each_fine p (Some n) l = tt
-  each_fine p None l = l
-
-  list_opens : (p : ℕ) → p < length rows → Basically (expand_list rows p) (code_list rows C p)
-  list_opens p l =
-      let o = plain_of (row rows p).alts in
-      cond_opens (just_any (row rows p).alts) _ _ _ _ (one_opens (leaf IsList)) (two_opens ListOf (item_task p o) (code_item C p o) (item_ops p o) (omega (arith, item_cost p o)) (item_fine p o l))
-
-  set_opens : (p : ℕ) → p < length rows → Basically (expand_set rows p) (code_set rows C p)
-  set_opens p l =
-      let o = plain_of (row rows p).alts in
-      cond_opens (just_any (row rows p).alts) _ _ _ _ (one_opens (leaf IsSet)) (two_opens SetOf (item_task p o) (code_item C p o) (item_ops p o) (omega (arith, item_cost p o)) (item_fine p o l))
-
-  tuple_of_opens : (p : ℕ) → p < length rows → Basically (expand_tuple_of rows p) (code_tuple_of rows C p)
-  tuple_of_opens p l =
-      let o = plain_of (row rows p).alts in
-      cond_opens (just_any (row rows p).alts) _ _ _ _ (one_opens (type_id 8)) (two_opens (Write IsTupleOf 0 1) (each_task p o) (code_each C p o) (each_ops p o) (omega (arith, each_cost p o)) (each_fine p o l))
+    over_opens : (whole o : Op) → p < length rows → Basically (expand_over whole o op rows p) (code_over whole o op rows C p)
+    over_opens whole o l =
+        let x = plain_of (row rows p).alts in
+        cond_opens (just_any (row rows p).alts) _ _ _ _ (one_opens whole) (two_opens o (part_task op p x) (code_part op C p x) (part_ops x) (omega (arith, part_cost x)) (part_fine x l))
 
   dict_opens : (k v : ℕ) → k < length rows → v < length rows → Basically (expand_dict rows k v) (code_dict rows C k v)
   dict_opens k v l m =
       let o = plain_of (row rows k).alts in
-      cond_opens (just_any (row rows k).alts && just_any (row rows v).alts) _ _ _ _ (one_opens (leaf IsDict)) (right _ (code_item C k o) (C v) DictOf (three_opens DictOf (item_task k o) (Ty v) (code_item C k o) (C v) (item_ops k o) refl (item_cost k o) (ty_cost v m) (item_fine k o l) m))
+      cond_opens (just_any (row rows k).alts && just_any (row rows v).alts) _ _ _ _ (one_opens (leaf IsDict)) (right _ (code_part item_op C k o) (C v) DictOf (three_opens DictOf (part_task item_op k o) (Ty v) (code_part item_op C k o) (C v) (part_ops item_op k o) refl (part_cost item_op k o) (ty_cost v m) (part_fine item_op k o l) m))
 
   pair_opens : (x y : ℕ) (a b : Option ℕ) → x < length rows → y < length rows → Basically (expand_pair x y a b) (code_pair C x y a b ++ Write IsTupleElems2 0 2 ∷ [])
   pair_opens x y (Some a) (Some b) l m = three_opens (Write IsTupleElems2 0 2) (Step (type_id a)) (Step (type_id b)) (type_id a ∷ []) (type_id b ∷ []) refl refl (omega arith) (omega arith) tt tt
@@ -116,12 +95,12 @@ module _ (rows : List Row) (w : ℕ → Bool) (sound : Fines rows) where
   basic_opens t i l m (iter p) e u low = one_opens (leaf IsIterable)
   basic_opens t i l m callable e u low = one_opens (leaf IsCallable)
   basic_opens t i l m kind e u low = one_opens (leaf IsType)
-  basic_opens t i l m (list p) e u low = list_opens p u.0
+  basic_opens t i l m (list p) e u low = over_opens item_op p (leaf IsList) ListOf u.0
   basic_opens t i l m (tuple ts) e u low = elems_opens t i ts (l, m) (ap elems e) low
-  basic_opens t i l m (tuple_of p) e u low = tuple_of_opens p u.0
+  basic_opens t i l m (tuple_of p) e u low = over_opens type_id p (type_id 8) (Write IsTupleOf 0 1) u.0
   basic_opens t i l m (dict k v) e u low = dict_opens k v u.0 u.1.0
-  basic_opens t i l m (custom n) e u low = one_opens (cond (w n) (leaf IsAny) (Write CustomKind n 0))
-  basic_opens t i l m (set_of p) e u low = set_opens p u.0
+  basic_opens t i l m (custom n) e u low = one_opens (custom_op w n)
+  basic_opens t i l m (set_of p) e u low = over_opens item_op p (leaf IsSet) SetOf u.0
 
   module _ (t i : ℕ) (l : t < length rows) (m : i < length (row rows t).alts) where
     basic_ops : (a : Alt) → alt_at rows t i ≡ a → ops_of rows w C (Basic t i) ≡ code_basic rows w C a
@@ -131,43 +110,16 @@ module _ (rows : List Row) (w : ℕ → Bool) (sound : Fines rows) where
     basic_cost a e = omega (arith, ap length (basic_ops a e))
 
     beside_ops : (a : Alt) → alt_at rows t i ≡ a → ops_of rows w C (beside_task t i a) ≡ code_beside rows w C a
-    beside_ops any e = basic_ops any e
     beside_ops (plain n) e = refl
-    beside_ops (iter p) e = basic_ops (iter p) e
-    beside_ops callable e = basic_ops callable e
-    beside_ops kind e = basic_ops kind e
-    beside_ops (list p) e = basic_ops (list p) e
-    beside_ops (tuple ps) e = basic_ops (tuple ps) e
-    beside_ops (tuple_of p) e = basic_ops (tuple_of p) e
-    beside_ops (dict k v) e = basic_ops (dict k v) e
-    beside_ops (custom n) e = basic_ops (custom n) e
-    beside_ops (set_of p) e = basic_ops (set_of p) e
+    beside_ops a e = basic_ops a e
 
     beside_cost : (a : Alt) → alt_at rows t i ≡ a → cost rows w C (beside_task t i a) ≤ 5 * length (code_beside rows w C a)
-    beside_cost any e = basic_cost any e
     beside_cost (plain n) e = omega arith
-    beside_cost (iter p) e = basic_cost (iter p) e
-    beside_cost callable e = basic_cost callable e
-    beside_cost kind e = basic_cost kind e
-    beside_cost (list p) e = basic_cost (list p) e
-    beside_cost (tuple ps) e = basic_cost (tuple ps) e
-    beside_cost (tuple_of p) e = basic_cost (tuple_of p) e
-    beside_cost (dict k v) e = basic_cost (dict k v) e
-    beside_cost (custom n) e = basic_cost (custom n) e
-    beside_cost (set_of p) e = basic_cost (set_of p) e
+    beside_cost a e = basic_cost a e
 
     beside_fine : (a : Alt) → Fine rows (beside_task t i a)
-    beside_fine any = (l, m)
     beside_fine (plain n) = tt
-    beside_fine (iter p) = (l, m)
-    beside_fine callable = (l, m)
-    beside_fine kind = (l, m)
-    beside_fine (list p) = (l, m)
-    beside_fine (tuple ps) = (l, m)
-    beside_fine (tuple_of p) = (l, m)
-    beside_fine (dict k v) = (l, m)
-    beside_fine (custom n) = (l, m)
-    beside_fine (set_of p) = (l, m)
+    beside_fine _ = (l, m)
 
     none_or_opens : (a : Alt) → alt_at rows t i ≡ a → Basically (expand_none_or t i a) (code_none_or rows w C a)
     none_or_opens a e = three_opens (Write IsAnyOfTwo 0 2) (leaf_task IsNone) (beside_task t i a) (leaf IsNone ∷ []) (code_beside rows w C a) refl (beside_ops a e) (omega arith) (beside_cost a e) tt (beside_fine a)

@@ -1,7 +1,7 @@
 -- What a call of alloc_ty comes to, and that what it writes is right. Assumes nothing.
 use Rattle.std.proofs.Common.{◌≡◌, ℕ, ◌+◌, ◌-◌, ◌*◌, ◌<◌, ◌≤◌, Bool, true, false, cond, ◌&&◌, ltb, leb, List, [], ◌∷◌, ◌++◌, length, take, sym, refl, ap, ◌∙◌, subst, append_assoc, append-nil, arith}
 use Rattle.std.proofs.lemmas.List.{take_at}
-use Rattle.std.proofs.lemmas.Bool.{and_parts, and_from, lt-ltb, le-leb, ltb-true, leb-true, le-ltb, lt-leb}
+use Rattle.std.proofs.lemmas.Bool.{and_parts, and_from, lt-ltb, le-leb, ltb-true, leb-true, le-ltb, lt-leb, and_left, and_right}
 use Rattle.custom.specs.Customs.{Custom, Open}
 use Rattle.custom.specs.Worlds.{world}
 use Rattle.matcher.specs.Nodes.{Node, used, valid, place}
@@ -56,25 +56,21 @@ module _ (sh : Bool) (limit : ℕ) (rows : List Row) (w : ℕ → Bool) (t : ℕ
   unfolding alloc_ty_lem
   no_type l = ap (λ b. cond b (cond (ltb (length known) most_annotations && leb (2 * (row rows t).heavy) (limit - used ns)) (granted (added known t (written sh rows w t ns))) (refused 10)) (refused 1)) (le-ltb t (length rows) l)
 
-  no_by : (b : Bool) → t < length rows → (ltb (length known) most_annotations && leb (2 * (row rows t).heavy) (limit - used ns)) ≡ false → alloc_ty_lem sh limit rows w t ns known ≡ refused 10
+  no_by : t < length rows → (ltb (length known) most_annotations && leb (2 * (row rows t).heavy) (limit - used ns)) ≡ false → alloc_ty_lem sh limit rows w t ns known ≡ refused 10
   unfolding alloc_ty_lem
-  no_by b l h =
+  no_by l h =
       ap (λ b. cond b (cond (ltb (length known) most_annotations && leb (2 * (row rows t).heavy) (limit - used ns)) (granted (added known t (written sh rows w t ns))) (refused 10)) (refused 1)) (lt-ltb t (length rows) l)
       ∙ ap (λ b. cond b (granted (added known t (written sh rows w t ns))) (refused 10)) h
 
-  and_no : (a : Bool) → (a && false) ≡ false
-  and_no true = refl
-  and_no false = refl
-
   pub no_place : t < length rows → most_annotations ≤ length known → alloc_ty_lem sh limit rows w t ns known ≡ refused 10
-  no_place l h = no_by true l (ap (λ b. b && leb (2 * (row rows t).heavy) (limit - used ns)) (le-ltb (length known) most_annotations h))
+  no_place l h = no_by l (and_left _ _ (le-ltb (length known) most_annotations h))
 
   pub no_room : t < length rows → limit - used ns < 2 * (row rows t).heavy → alloc_ty_lem sh limit rows w t ns known ≡ refused 10
-  no_room l h = no_by true l (ap (λ b. ltb (length known) most_annotations && b) (lt-leb (2 * (row rows t).heavy) (limit - used ns) h) ∙ and_no (ltb (length known) most_annotations))
+  no_room l h = no_by l (and_right _ _ (lt-leb (2 * (row rows t).heavy) (limit - used ns) h))
 
   granted_by : (e : Entered) (a b : Bool) → ltb t (length rows) ≡ a → (ltb (length known) most_annotations && leb (2 * (row rows t).heavy) (limit - used ns)) ≡ b → cond a (cond b (granted (added known t (written sh rows w t ns))) (refused 10)) (refused 1) ≡ granted e → May × (e ≡ added known t (written sh rows w t ns))
-  granted_by e false b p q h = let z : ◌≡◌ {A = ℕ} 0 1 = cc in absurd (omega arith)
-  granted_by e true false p q h = let z : ◌≡◌ {A = ℕ} 0 1 = cc in absurd (omega arith)
+  granted_by e false b p q h = cc
+  granted_by e true false p q h = cc
   granted_by e true true p q h =
       let s = and_parts (ltb (length known) most_annotations) (leb (2 * (row rows t).heavy) (limit - used ns)) q in
       (record { stands = ltb-true t (length rows) p; few = ltb-true (length known) most_annotations s.0; room = leb-true (2 * (row rows t).heavy) (limit - used ns) s.1 }, cc)

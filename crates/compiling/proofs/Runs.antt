@@ -1,7 +1,7 @@
 -- Steps taken one after another, and what they leave. Assumes nothing.
-use Rattle.std.proofs.Common.{◌≡◌, ℕ, ◌+◌, ◌-◌, ◌*◌, ◌<◌, ◌≤◌, Bool, true, false, cond, ◌&&◌, eqb, leb, List, [], ◌∷◌, ◌++◌, length, sym, refl, ap, ◌∙◌, subst, ap₂, append_assoc, append-nil, arith, length-append}
+use Rattle.std.proofs.Common.{◌≡◌, ℕ, ◌+◌, ◌-◌, ◌*◌, ◌<◌, ◌≤◌, Bool, true, ◌&&◌, eqb, leb, List, [], ◌∷◌, ◌++◌, length, sym, refl, ap, ◌∙◌, subst, ap₂, append_assoc, append-nil, arith, length-append}
 use Rattle.std.proofs.lemmas.List.{drop_at}
-use Rattle.std.proofs.lemmas.Bool.{and_from, le-leb}
+use Rattle.std.proofs.lemmas.Bool.{and_from, le-leb, cond_both}
 use Rattle.matcher.specs.Nodes.{Node, arity, numbered, valid, used, places, roomy, place, put}
 use Rattle.matcher.proofs.Grows.{grants}
 use Rattle.compiling.specs.Code.{State, state, takes, kids_of, chosen, exec, execs, Safe, Grants, Can}
@@ -31,17 +31,13 @@ takes_is DictOf k f = sym f
 takes_is AnyOfTwo k f = sym f
 takes_is (AnyOf n) k f = f.0
 
-cond_fit : (d k : ℕ) (ns : List Node) (b : Bool) (x y : Node) → Fit d k ns x → Fit d k ns y → Fit d k ns (cond b x y)
-cond_fit d k ns true x y f g = f
-cond_fit d k ns false x y f g = g
-
 op_fit : (o : Op) (d k : ℕ) (ns : List Node) (ks : List ℕ) → OpFine o k → length ks ≡ k → Good d ns ks → Fit d k ns (chosen o ns ks)
 op_fit (Write kd m n) d k ns ks f e g = record { form = ap (λ j. arity kd j && numbered kd m) e ∙ f.1; good = g; few = omega arith }
-op_fit ListOf d k ns ks f e g = cond_fit d k ns (every_wildcard ns ks) _ _ (record { form = refl; good = tt; few = omega arith }) (record { form = ap (λ j. eqb j 1 && eqb 0 0) (e ∙ f); good = g; few = omega arith })
-op_fit SetOf d k ns ks f e g = cond_fit d k ns (every_wildcard ns ks) _ _ (record { form = refl; good = tt; few = omega arith }) (record { form = ap (λ j. eqb j 1 && eqb 0 0) (e ∙ f); good = g; few = omega arith })
-op_fit DictOf d k ns ks f e g = cond_fit d k ns (every_wildcard ns ks) _ _ (record { form = refl; good = tt; few = omega arith }) (record { form = ap (λ j. eqb j 2 && eqb 0 0) (e ∙ f); good = g; few = omega arith })
-op_fit AnyOfTwo d k ns ks f e g = cond_fit d k ns (some_wildcard ns ks) _ _ (record { form = refl; good = tt; few = omega arith }) (record { form = ap (λ j. eqb j 2 && eqb 0 0) (e ∙ f); good = g; few = omega arith })
-op_fit (AnyOf n) d k ns ks f e g = cond_fit d k ns (some_wildcard ns ks) _ _ (record { form = refl; good = tt; few = omega arith }) (record { form = and_from (leb 3 (length ks)) (eqb 0 0) (le-leb 3 (length ks) (omega (arith, f.1))) refl; good = g; few = omega arith })
+op_fit ListOf d k ns ks f e g = cond_both (every_wildcard ns ks) _ _ (Fit d k ns) (λ _. record { form = refl; good = tt; few = omega arith }) (λ _. record { form = ap (λ j. eqb j 1 && eqb 0 0) (e ∙ f); good = g; few = omega arith })
+op_fit SetOf d k ns ks f e g = cond_both (every_wildcard ns ks) _ _ (Fit d k ns) (λ _. record { form = refl; good = tt; few = omega arith }) (λ _. record { form = ap (λ j. eqb j 1 && eqb 0 0) (e ∙ f); good = g; few = omega arith })
+op_fit DictOf d k ns ks f e g = cond_both (every_wildcard ns ks) _ _ (Fit d k ns) (λ _. record { form = refl; good = tt; few = omega arith }) (λ _. record { form = ap (λ j. eqb j 2 && eqb 0 0) (e ∙ f); good = g; few = omega arith })
+op_fit AnyOfTwo d k ns ks f e g = cond_both (some_wildcard ns ks) _ _ (Fit d k ns) (λ _. record { form = refl; good = tt; few = omega arith }) (λ _. record { form = ap (λ j. eqb j 2 && eqb 0 0) (e ∙ f); good = g; few = omega arith })
+op_fit (AnyOf n) d k ns ks f e g = cond_both (some_wildcard ns ks) _ _ (Fit d k ns) (λ _. record { form = refl; good = tt; few = omega arith }) (λ _. record { form = and_from (leb 3 (length ks)) (eqb 0 0) (le-leb 3 (length ks) (omega (arith, f.1))) refl; good = g; few = omega arith })
 
 module _ (W : World) (sh : Bool) (limit : ℕ) where
   safe-++ : (c e : List Op) (st : State) → Safe limit sh c st → Safe limit sh e (execs sh c st) → Safe limit sh (c ++ e) st

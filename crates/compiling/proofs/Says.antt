@@ -1,7 +1,8 @@
 -- What the nodes of a store accept. Assumes nothing.
 use Rattle.std.proofs.Common.{◌≡◌, ℕ, ◌+◌, ◌<◌, ◌≤◌, Bool, true, false, cond, ◌&&◌, ◌||◌, eqb, ltb, ◌⊎◌, List, [], ◌∷◌, ◌++◌, length, get_or, sym, refl, ap, ◌∙◌, subst, ap₂, inl, inr, append_assoc, append-nil, arith, length-append}
+use Rattle.std.proofs.Math.Bool.{and-true}
 use Rattle.std.proofs.lemmas.List.{get_or_append_left, get_or_push}
-use Rattle.std.proofs.lemmas.Bool.{and_parts, and_from, lt-ltb, ltb-true, cases_lt, eqb-true}
+use Rattle.std.proofs.lemmas.Bool.{and_parts, and_from, ltb-true, cases_lt, eqb-true, or_left, or_right}
 use Rattle.std.proofs.lemmas.Slice.Eq.{bytes_eq-Decides}
 use Rattle.matcher.specs.Nodes.{Node, node, no_node, node_at_lem, all_below, fault, is_granted, roomy, valid, valid_from, find, same_node, place, put, ordinal}
 use Rattle.matcher.specs.declared.kind.Kind.{Kind}
@@ -14,7 +15,7 @@ use Rattle.compiling.specs.Code.{chosen}
 use Rattle.compiling.specs.Written.{is_any_kind_lem, wildcard, every_wildcard, some_wildcard}
 use Rattle.compiling.specs.declared.tasks.Op.{Op}
 use Rattle.compiling.specs.declared.tasks.Op.TheVariants.{Write, ListOf, SetOf, DictOf, AnyOfTwo, AnyOf}
-use Rattle.compiling.proofs.Writes.{find_same}
+use Rattle.compiling.proofs.Writes.{find_same, below_more}
 
 module _ (W : World) where
   push_from : (ts : List Test) (ns : List Node) (d : Node) → tests_from W ts (ns ++ d ∷ []) ≡ tests_from W ts ns ++ node_test W (tests_from W ts ns) d ∷ []
@@ -63,13 +64,6 @@ module _ (W : World) where
 
   abbrev pub Speak : List Node → Type 0
   Speak ns = (n : ℕ) → n < length ns → (get_or (tests W ns) n nay ≡ node_test W (tests W ns) (node_at_lem ns n)) × (all_below (length ns) (node_at_lem ns n).kids ≡ true)
-
-  below_more : (n m : ℕ) (ks : List ℕ) → n ≤ m → all_below n ks ≡ true → all_below m ks ≡ true
-  below_more n m [] l b = refl
-  below_more n m (k ∷ ks) l b =
-      let p = and_parts (ltb k n) (all_below n ks) b in
-      let q = ltb-true k n p.0 in
-      and_from _ _ (lt-ltb k m (omega arith)) (below_more n m ks l p.1)
 
   says_kids : (ts us : List Test) (d : Node) → kid_tests ts d.kids ≡ kid_tests us d.kids → node_test W ts d ≡ node_test W us d
   says_kids ts us d e = ap (says W d.kind d.number) e
@@ -196,33 +190,7 @@ Kids (AnyOf n) j = Unit {0}
 
 any_kind : (W : World) (k : Kind) (m : ℕ) (ps : List Test) (v : ℕ) → is_any_kind_lem k ≡ true → says W k m ps v ≡ true
 any_kind W IsAny m ps v h = refl
-any_kind W IsNever m ps v h = let z : ◌≡◌ {A = ℕ} 0 1 = cc in absurd (omega arith)
-any_kind W IsStr m ps v h = let z : ◌≡◌ {A = ℕ} 0 1 = cc in absurd (omega arith)
-any_kind W IsList m ps v h = let z : ◌≡◌ {A = ℕ} 0 1 = cc in absurd (omega arith)
-any_kind W IsListOf m ps v h = let z : ◌≡◌ {A = ℕ} 0 1 = cc in absurd (omega arith)
-any_kind W IsTupleOf m ps v h = let z : ◌≡◌ {A = ℕ} 0 1 = cc in absurd (omega arith)
-any_kind W IsTupleElems m ps v h = let z : ◌≡◌ {A = ℕ} 0 1 = cc in absurd (omega arith)
-any_kind W IsTupleElems0 m ps v h = let z : ◌≡◌ {A = ℕ} 0 1 = cc in absurd (omega arith)
-any_kind W IsTupleElems1 m ps v h = let z : ◌≡◌ {A = ℕ} 0 1 = cc in absurd (omega arith)
-any_kind W IsTupleElems2 m ps v h = let z : ◌≡◌ {A = ℕ} 0 1 = cc in absurd (omega arith)
-any_kind W IsDict m ps v h = let z : ◌≡◌ {A = ℕ} 0 1 = cc in absurd (omega arith)
-any_kind W IsDictOf m ps v h = let z : ◌≡◌ {A = ℕ} 0 1 = cc in absurd (omega arith)
-any_kind W IsSet m ps v h = let z : ◌≡◌ {A = ℕ} 0 1 = cc in absurd (omega arith)
-any_kind W IsSetOf m ps v h = let z : ◌≡◌ {A = ℕ} 0 1 = cc in absurd (omega arith)
-any_kind W IsAnyOfTwo m ps v h = let z : ◌≡◌ {A = ℕ} 0 1 = cc in absurd (omega arith)
-any_kind W IsAnyOf m ps v h = let z : ◌≡◌ {A = ℕ} 0 1 = cc in absurd (omega arith)
-any_kind W IsCallable m ps v h = let z : ◌≡◌ {A = ℕ} 0 1 = cc in absurd (omega arith)
-any_kind W IsType m ps v h = let z : ◌≡◌ {A = ℕ} 0 1 = cc in absurd (omega arith)
-any_kind W IsIterable m ps v h = let z : ◌≡◌ {A = ℕ} 0 1 = cc in absurd (omega arith)
-any_kind W IsInt m ps v h = let z : ◌≡◌ {A = ℕ} 0 1 = cc in absurd (omega arith)
-any_kind W IsBool m ps v h = let z : ◌≡◌ {A = ℕ} 0 1 = cc in absurd (omega arith)
-any_kind W IsNone m ps v h = let z : ◌≡◌ {A = ℕ} 0 1 = cc in absurd (omega arith)
-any_kind W StarlarkTypeIdMatcher m ps v h = let z : ◌≡◌ {A = ℕ} 0 1 = cc in absurd (omega arith)
-any_kind W Custom m ps v h = let z : ◌≡◌ {A = ℕ} 0 1 = cc in absurd (omega arith)
-
-pub and_one : (b : Bool) → (b && true) ≡ b
-and_one true = refl
-and_one false = refl
+any_kind W _ m ps v h = cc
 
 pub all_yes : (p : Test) (xs : List ℕ) → ((x : ℕ) → p x ≡ true) → all p xs ≡ true
 all_yes p [] h = refl
@@ -232,14 +200,6 @@ pub entries_yes : (p q : Test) (xs : List ℕ) → ((x : ℕ) → p x ≡ true) 
 entries_yes p q [] h k = refl
 entries_yes p q (x ∷ xs) h k = and_from (p x) (entries q p xs) (h x) (entries_yes q p xs k h)
 
-or_yes : (a b : Bool) → a ≡ true → (a || b) ≡ true
-or_yes true b h = refl
-or_yes false b h = let z : ◌≡◌ {A = ℕ} 0 1 = cc in absurd (omega arith)
-
-or_later : (a b : Bool) → b ≡ true → (a || b) ≡ true
-or_later true b h = refl
-or_later false b h = h
-
 module _ (W : World) (ns : List Node) (speak : Speak W ns) where
   abbrev ts : List Test
   ts = tests W ns
@@ -248,20 +208,20 @@ module _ (W : World) (ns : List Node) (speak : Speak W ns) where
   wild_yes k l h v = ap (λ (p : Test). p v) (speak k l).0 ∙ any_kind W (node_at_lem ns k).kind (node_at_lem ns k).number (kid_tests ts (node_at_lem ns k).kids) v h
 
   some_yes : (ks : List ℕ) → all_below (length ns) ks ≡ true → some_wildcard ns ks ≡ true → (v : ℕ) → some (kid_tests ts ks) v ≡ true
-  some_yes [] b h v = let z : ◌≡◌ {A = ℕ} 0 1 = cc in absurd (omega arith)
+  some_yes [] b h v = cc
   some_yes (k ∷ ks) b h v =
       let p = and_parts (ltb k (length ns)) (all_below (length ns) ks) b in
       by (wildcard ns k) refl h (λ e. wild_yes k (ltb-true k (length ns) p.0) e v) (λ e. some_yes ks p.1 e v)
     where
       by : (c : Bool) → wildcard ns k ≡ c → (c || some_wildcard ns ks) ≡ true → (wildcard ns k ≡ true → get_or ts k nay v ≡ true) → (some_wildcard ns ks ≡ true → some (kid_tests ts ks) v ≡ true) → some (kid_tests ts (k ∷ ks)) v ≡ true
-      by true e h one rest = or_yes (get_or ts k nay v) (some (kid_tests ts ks) v) (one e)
-      by false e h one rest = or_later (get_or ts k nay v) (some (kid_tests ts ks) v) (rest h)
+      by true e h one rest = or_left (get_or ts k nay v) (some (kid_tests ts ks) v) (one e)
+      by false e h one rest = or_right (get_or ts k nay v) (some (kid_tests ts ks) v) (rest h)
 
   item_says : (b : Bool) (k : ℕ) (n : ℕ) → all_below (length ns) (k ∷ []) ≡ true → every_wildcard ns (k ∷ []) ≡ b → (v : ℕ) → cond b (eqb (cell_at W.cells v).ty n) (eqb (cell_at W.cells v).ty n && all (get_or ts k nay) (cell_at W.cells v).parts) ≡ (eqb (cell_at W.cells v).ty n && all (get_or ts k nay) (cell_at W.cells v).parts)
   item_says true k n b e v =
       let l = ltb-true k (length ns) (and_parts _ _ b).0 in
       let w = (and_parts (wildcard ns k) true e).0 in
-      sym (ap (λ c. eqb (cell_at W.cells v).ty n && c) (all_yes (get_or ts k nay) (cell_at W.cells v).parts (wild_yes k l w)) ∙ and_one (eqb (cell_at W.cells v).ty n))
+      sym (ap (λ c. eqb (cell_at W.cells v).ty n && c) (all_yes (get_or ts k nay) (cell_at W.cells v).parts (wild_yes k l w)) ∙ and-true (eqb (cell_at W.cells v).ty n))
   item_says false k n b e v = refl
 
   pair_says : (b : Bool) (k j : ℕ) → all_below (length ns) (k ∷ j ∷ []) ≡ true → every_wildcard ns (k ∷ j ∷ []) ≡ b → (v : ℕ) → cond b (eqb (cell_at W.cells v).ty 6) (eqb (cell_at W.cells v).ty 6 && entries (get_or ts k nay) (get_or ts j nay) (cell_at W.cells v).parts) ≡ (eqb (cell_at W.cells v).ty 6 && entries (get_or ts k nay) (get_or ts j nay) (cell_at W.cells v).parts)
@@ -270,7 +230,7 @@ module _ (W : World) (ns : List Node) (speak : Speak W ns) where
       let q = and_parts (ltb j (length ns)) true p.1 in
       let w = and_parts (wildcard ns k) (every_wildcard ns (j ∷ [])) e in
       let u = and_parts (wildcard ns j) true w.1 in
-      sym (ap (λ c. eqb (cell_at W.cells v).ty 6 && c) (entries_yes (get_or ts k nay) (get_or ts j nay) (cell_at W.cells v).parts (wild_yes k (ltb-true k (length ns) p.0) w.0) (wild_yes j (ltb-true j (length ns) q.0) u.0)) ∙ and_one (eqb (cell_at W.cells v).ty 6))
+      sym (ap (λ c. eqb (cell_at W.cells v).ty 6 && c) (entries_yes (get_or ts k nay) (get_or ts j nay) (cell_at W.cells v).parts (wild_yes k (ltb-true k (length ns) p.0) w.0) (wild_yes j (ltb-true j (length ns) q.0) u.0)) ∙ and-true (eqb (cell_at W.cells v).ty 6))
   pair_says false k j b e v = refl
 
   union_says : (b : Bool) (ks : List ℕ) → all_below (length ns) ks ≡ true → some_wildcard ns ks ≡ b → (v : ℕ) → cond b true (some (kid_tests ts ks) v) ≡ some (kid_tests ts ks) v

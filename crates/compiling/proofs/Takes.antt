@@ -1,19 +1,13 @@
 -- One step of the stacks. Assumes nothing.
-use Rattle.std.proofs.Common.{◌≡◌, ℕ, ◌-◌, Bool, List, [], ◌∷◌, ◌++◌, length, take, drop, sym, refl, ap, ◌∙◌, subst, ap₂, append_assoc, append-nil, arith, length-append}
+use Rattle.std.proofs.Common.{◌≡◌, ℕ, ◌-◌, Bool, List, [], ◌∷◌, ◌++◌, length, take, drop, sym, refl, ap, ◌∙◌, subst, ap₂, append-nil, arith, length-append}
 use Rattle.std.proofs.lemmas.List.{take_rest, take_at, drop_at}
 use Rattle.matcher.specs.Nodes.{Node, place, put}
 use Rattle.compiling.specs.Code.{State, state, kids_of, takes, op_node, chosen, exec, execs, Can, Wrote, Grants}
-use Rattle.compiling.specs.Tasks.{advance, Ready, expand, listed}
+use Rattle.compiling.specs.Tasks.{expand, listed}
 use Rattle.membership.specs.Rows.{Row}
 use Rattle.compiling.specs.declared.tasks.Op.{Op}
 use Rattle.compiling.specs.declared.tasks.Task.{Task}
-use Rattle.compiling.specs.declared.tasks.Task.TheVariants.{Ty, Basic, Alternatives, Elements, Step}
-
-pub push2 : (xs ys zs : List Task) (a b : Task) → ys ≡ xs ++ a ∷ [] → zs ≡ ys ++ b ∷ [] → zs ≡ xs ++ a ∷ b ∷ []
-push2 xs ys zs a b p q = q ∙ ap (λ x. x ++ b ∷ []) p ∙ append_assoc xs (a ∷ []) (b ∷ [])
-
-pub push3 : (xs ys zs us : List Task) (a b c : Task) → ys ≡ xs ++ a ∷ [] → zs ≡ ys ++ b ∷ [] → us ≡ zs ++ c ∷ [] → us ≡ xs ++ a ∷ b ∷ c ∷ []
-push3 xs ys zs us a b c p q r = r ∙ ap (λ x. x ++ c ∷ []) (push2 xs ys zs a b p q) ∙ append_assoc xs (a ∷ b ∷ []) (c ∷ [])
+use Rattle.compiling.specs.declared.tasks.Task.TheVariants.{Step}
 
 pub part_is : (slice rs : List ℕ) (len taken n : ℕ) → slice ≡ rs → len ≡ length rs → taken ≡ n → take (length slice - (len - taken)) (drop (len - taken) slice) ≡ kids_of n rs
 part_is slice rs len taken n e l t =
@@ -29,22 +23,9 @@ step_exec sh o ns ns' rs rs' kids n rest e f wr r =
     let n_is : n ≡ place sh ns (op_node o (state ns rs)) = wr.number ∙ ap (place sh ns) d in
     ap₂ state (wr.nodes ∙ ap₂ (put ns) d n_is) (r ∙ ap₂ (λ k m. take k rs ++ m ∷ []) f n_is)
 
-pub still : (sh : Bool) (task : Task) (st : State) → ((o : Op) → task ≡ Step o → ⊥) → advance sh task st ≡ st
-still sh (Ty t) st h = refl
-still sh (Basic t i) st h = refl
-still sh (Alternatives t i) st h = refl
-still sh (Elements t i j) st h = refl
-still sh (Step o) st h = absurd (h o refl)
-
-pub moved : (sh : Bool) (task : Task) (o : Op) (st st' : State) → task ≡ Step o → st' ≡ exec sh o st → st' ≡ advance sh task st
-moved sh task o st st' e h = h ∙ ap (λ x. advance sh x st) (sym e)
-
 pub none_more : (rows : List Row) (w : ℕ → Bool) (task : Task) (o : Op) (xs ys : List Task) → task ≡ Step o → ys ≡ xs → ys ≡ xs ++ listed (expand rows w task)
 unfolding expand
 none_more rows w task o xs ys e h = h ∙ sym (append-nil xs) ∙ ap (λ x. xs ++ listed (expand rows w x)) (sym e)
-
-pub ready_step : (limit : ℕ) (task : Task) (o : Op) (st : State) → task ≡ Step o → Ready limit task st → Ready limit (Step o) st
-ready_step limit task o st e r = subst (λ x. Ready limit x st) e r
 
 pub execs-++ : (sh : Bool) (c e : List Op) (st : State) → execs sh (c ++ e) st ≡ execs sh e (execs sh c st)
 execs-++ sh [] e st = refl

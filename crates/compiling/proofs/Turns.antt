@@ -4,10 +4,10 @@ use Rattle.compiling.specs.Limits.{most_tasks}
 use Rattle.membership.specs.Rows.{Row}
 use Rattle.membership.specs.Readings.{alt_at}
 use Rattle.compiling.proofs.Fines.{Fines}
-use Rattle.compiling.specs.Code.{Codes, State, state, code, exec, execs, Safe, takes, rest_of, op_node}
+use Rattle.compiling.specs.Code.{Codes, State, code, exec, execs, Safe, takes, rest_of, op_node}
 use Rattle.compiling.specs.Tasks.{ops_of, pending, cost, load, Fine, AllFine, listed, expand, advance, Ready}
 use Rattle.compiling.specs.Tasks.{Going}
-use Rattle.matcher.specs.Nodes.{Node, place}
+use Rattle.matcher.specs.Nodes.{place}
 use Rattle.compiling.specs.declared.tasks.Op.{Op}
 use Rattle.compiling.specs.declared.tasks.Task.{Task}
 use Rattle.compiling.specs.declared.tasks.Task.TheVariants.{Ty, Basic, Alternatives, Elements, Step}
@@ -106,20 +106,17 @@ module _ (rows : List Row) (w : ℕ → Bool) where
           }
 
       pub taken : (task : Task) → Going rows w sh limit end (rest ++ task ∷ []) st → Taken task
-      taken (Ty t) g = inner (Ty t) (λ o e. let z : ◌≡◌ {A = ℕ} 0 1 = cc in omega arith) refl tt g
-      taken (Basic t i) g = inner (Basic t i) (λ o e. let z : ◌≡◌ {A = ℕ} 0 1 = cc in omega arith) refl tt g
-      taken (Alternatives t i) g = inner (Alternatives t i) (λ o e. let z : ◌≡◌ {A = ℕ} 0 1 = cc in omega arith) refl tt g
-      taken (Elements t i j) g = inner (Elements t i j) (λ o e. let z : ◌≡◌ {A = ℕ} 0 1 = cc in omega arith) refl tt g
       taken (Step o) g = step o g
+      taken task g = inner task (λ o e. cc) refl tt g
 
-module _ (rows : List Row) (w : ℕ → Bool) (sound : Fines rows) (sh : Bool) (limit : ℕ) (end : State) (ns : List Node) (rs rs' : List ℕ) (rest : List Task) (task : Task) where
-  pub taken_from : (tasks : List Task) → tasks ≡ rest ++ task ∷ [] → rs' ≡ rs → Going rows w sh limit end tasks (state ns rs) → Taken rows w sound sh limit end (state ns rs') rest task
-  taken_from tasks e f g = taken rows w sound sh limit end (state ns rs') rest task (subst (λ xs. Going rows w sh limit end xs (state ns rs')) e (subst (λ x. Going rows w sh limit end tasks (state ns x)) (sym f) g))
+module _ (rows : List Row) (w : ℕ → Bool) (sound : Fines rows) (sh : Bool) (limit : ℕ) (end st : State) (rest : List Task) (task : Task) where
+  pub taken_from : (tasks : List Task) → tasks ≡ rest ++ task ∷ [] → Going rows w sh limit end tasks st → Taken rows w sound sh limit end st rest task
+  taken_from tasks e g = taken rows w sound sh limit end st rest task (subst (λ xs. Going rows w sh limit end xs st) e g)
 
-  pub keeps_from : (tasks' : List Task) (st' : State) → Taken rows w sound sh limit end (state ns rs') rest task → tasks' ≡ rest ++ listed (expand rows w task) → st' ≡ advance sh task (state ns rs') → Going rows w sh limit end tasks' st'
-  keeps_from tasks' st' t e f = subst (λ xs. Going rows w sh limit end xs st') (sym e) (subst (Going rows w sh limit end (rest ++ listed (expand rows w task))) (sym f) t.keeps)
+  pub keeps_from : (tasks : List Task) (st' : State) → Taken rows w sound sh limit end st rest task → tasks ≡ rest ++ listed (expand rows w task) → st' ≡ advance sh task st → Going rows w sh limit end tasks st'
+  keeps_from tasks st' t e f = subst (λ xs. Going rows w sh limit end xs st') (sym e) (subst (Going rows w sh limit end (rest ++ listed (expand rows w task))) (sym f) t.keeps)
 
-  pub falls_from : (tasks tasks' : List Task) → Taken rows w sound sh limit end (state ns rs') rest task → tasks ≡ rest ++ task ∷ [] → tasks' ≡ rest ++ listed (expand rows w task) → load rows w (code rows w) tasks' < load rows w (code rows w) tasks
+  pub falls_from : (tasks tasks' : List Task) → Taken rows w sound sh limit end st rest task → tasks ≡ rest ++ task ∷ [] → tasks' ≡ rest ++ listed (expand rows w task) → load rows w (code rows w) tasks' < load rows w (code rows w) tasks
   falls_from tasks tasks' t e f = omega (arith, t.falls, ap (load rows w (code rows w)) e, ap (load rows w (code rows w)) f)
 
 pub ended : (rows : List Row) (w : ℕ → Bool) (sh : Bool) (limit : ℕ) (end st : State) (tasks : List Task) → tasks ≡ [] → Going rows w sh limit end tasks st → st ≡ end

@@ -1,6 +1,6 @@
 -- A type's parts are types before it. Assumes nothing.
-use Rattle.std.proofs.Common.{◌≡◌, ℕ, zero, suc, ◌<◌, ◌≤◌, true, List, [], ◌∷◌, length, get_or, sym, subst, arith}
-use Rattle.membership.specs.Rows.{Alt, any, plain, iter, callable, kind, list, tuple, tuple_of, dict, custom, set_of, Row, row, parts}
+use Rattle.std.proofs.Common.{◌≡◌, ℕ, zero, suc, ◌<◌, ◌≤◌, true, List, [], ◌∷◌, length, get_or, arith}
+use Rattle.membership.specs.Rows.{Alt, any, tuple, Row, row, parts}
 use Rattle.membership.specs.Readings.{alt_at, elems, plain_alt}
 use Rattle.compiling.proofs.Fines.{all_under, AltsFine, Fines, number_ok}
 
@@ -18,17 +18,8 @@ fine_at t (a ∷ xs) zero f l = f.0
 fine_at t (a ∷ xs) (suc i) f l = fine_at t xs i f.1 (omega arith)
 
 elements_under : (n : ℕ) (a : Alt) (j : ℕ) → all_under n (parts a) → j < length (elems a) → get_or (elems a) j 0 < n
-elements_under n any j u l = absurd (omega arith)
-elements_under n (plain m) j u l = absurd (omega arith)
-elements_under n (iter t) j u l = absurd (omega arith)
-elements_under n callable j u l = absurd (omega arith)
-elements_under n kind j u l = absurd (omega arith)
-elements_under n (list t) j u l = absurd (omega arith)
 elements_under n (tuple ts) j u l = under_at n ts j u l
-elements_under n (tuple_of t) j u l = absurd (omega arith)
-elements_under n (dict k v) j u l = absurd (omega arith)
-elements_under n (custom m) j u l = absurd (omega arith)
-elements_under n (set_of t) j u l = absurd (omega arith)
+elements_under n _ j u l = absurd (omega arith)
 
 pub under_up : (n m : ℕ) (ps : List ℕ) → n ≤ m → all_under n ps → all_under m ps
 under_up n m [] l u = tt
@@ -44,18 +35,6 @@ module _ (rows : List Row) (sound : Fines rows) (t i : ℕ) (stands : t < length
   pub element_in : (j : ℕ) → j < length (elems (alt_at rows t i)) → get_or (elems (alt_at rows t i)) j 0 < length rows
   element_in j l = omega (arith, element_low j l)
 
-  pub parts_low : (a : Alt) → a ≡ alt_at rows t i → all_under (length rows) (parts a)
-  parts_low a e = subst (λ (x : Alt). all_under (length rows) (parts x)) (sym e) (under_up t (length rows) (parts (alt_at rows t i)) (omega arith) alt_fine.0)
-
 pub elems_few : (a : Alt) → length (parts a) ≤ 64 → length (elems a) ≤ 64
-elems_few any h = omega arith
-elems_few (plain n) h = omega arith
-elems_few (iter t) h = omega arith
-elems_few callable h = omega arith
-elems_few kind h = omega arith
-elems_few (list t) h = omega arith
 elems_few (tuple ts) h = h
-elems_few (tuple_of t) h = omega arith
-elems_few (dict k v) h = omega arith
-elems_few (custom n) h = omega arith
-elems_few (set_of t) h = omega arith
+elems_few _ h = omega arith

@@ -1,19 +1,19 @@
 -- Compiling a type takes no more steps than its weight. Assumes nothing.
-use Rattle.std.proofs.Common.{ℕ, zero, suc, ◌+◌, ◌<◌, ◌≤◌, Bool, true, false, cond, ◌&&◌, List, [], ◌∷◌, ◌++◌, length, Some, None, Option, ap, arith, length-append}
-use Rattle.matcher.specs.declared.kind.Kind.TheVariants.{IsTupleOf, IsTupleElems, IsTupleElems1, IsTupleElems2, IsAnyOfTwo}
+use Rattle.std.proofs.Common.{ℕ, zero, suc, ◌+◌, ◌<◌, ◌≤◌, Bool, ◌&&◌, List, [], ◌∷◌, ◌++◌, length, Some, None, Option, ap, arith, length-append}
+use Rattle.std.proofs.lemmas.Bool.{cond_both}
+use Rattle.matcher.specs.declared.kind.Kind.TheVariants.{IsList, IsSet, IsTupleOf, IsTupleElems, IsTupleElems1, IsTupleElems2, IsAnyOfTwo}
 use Rattle.membership.specs.Rows.{Alt, any, plain, iter, callable, kind, list, tuple, tuple_of, dict, custom, set_of, Row, row, parts, total, weight_alts, one_less}
 use Rattle.membership.specs.Readings.{just_any, plain_of}
 use Rattle.compiling.proofs.Fines.{all_under, AltsFine, Fines}
-use Rattle.compiling.specs.Code.{Codes, code, code_item, code_all, code_pair, code_tuple, code_each, code_basic, code_beside, code_alts, code_union}
+use Rattle.compiling.specs.Code.{Codes, code, leaf, type_id, item_op, code_part, code_over, code_all, code_pair, code_tuple, code_basic, code_beside, code_alts, code_union}
 use Rattle.compiling.specs.Written.{is_none}
 use Rattle.compiling.specs.declared.tasks.Op.{Op}
 use Rattle.compiling.specs.declared.tasks.Op.TheVariants.{Write, ListOf, SetOf, DictOf, AnyOfTwo, AnyOf}
 use Rattle.compiling.proofs.Codes.{code_is, code_some}
 
 -- no more steps than the weight
-cond_few : (b : Bool) (c e : List Op) (n : ℕ) → length c ≤ n → length e ≤ n → length (cond b c e) ≤ n
-cond_few true c e n p q = p
-cond_few false c e n p q = q
+abbrev Few : ℕ → List Op → Type 0
+Few n os = length os ≤ n
 
 module _ (rows : List Row) (w : ℕ → Bool) (sound : Fines rows) where
   abbrev D : Codes
@@ -29,13 +29,14 @@ module _ (rows : List Row) (w : ℕ → Bool) (sound : Fines rows) where
     one_light : (p : ℕ) → p < t → 1 ≤ (row rows p).heavy
     one_light p u = omega (arith, ih p u, code_some rows w sound p (omega arith))
 
-    item_light : (p : ℕ) (o : Option ℕ) → p < t → length (code_item D p o) ≤ (row rows p).heavy
-    item_light p (Some n) u = one_light p u
-    item_light p None u = ih p u
+    part_light : (op : ℕ → Op) (p : ℕ) (o : Option ℕ) → p < t → length (code_part op D p o) ≤ (row rows p).heavy
+    part_light op p (Some n) u = one_light p u
+    part_light op p None u = ih p u
 
-    each_light : (p : ℕ) (o : Option ℕ) → p < t → length (code_each D p o) ≤ (row rows p).heavy
-    each_light p (Some n) u = one_light p u
-    each_light p None u = ih p u
+    over_light : (whole o : Op) (op : ℕ → Op) (p : ℕ) → p < t → length (code_over whole o op rows D p) ≤ 1 + (row rows p).heavy
+    over_light whole o op p u =
+        let x = plain_of (row rows p).alts in
+        cond_both (just_any (row rows p).alts) _ _ (Few (1 + (row rows p).heavy)) (λ _. omega arith) (λ _. omega (arith, end (code_part op D p x) o (row rows p).heavy (part_light op p x u)))
 
     all_light : (ps : List ℕ) → all_under t ps → length (code_all D ps) ≤ total rows ps
     all_light [] u = omega arith
@@ -58,25 +59,16 @@ module _ (rows : List Row) (w : ℕ → Bool) (sound : Fines rows) where
     basic_light (iter p) u = omega arith
     basic_light callable u = omega arith
     basic_light kind u = omega arith
-    basic_light (list p) u = cond_few (just_any (row rows p).alts) _ _ _ (omega arith) (omega (arith, end (code_item D p (plain_of (row rows p).alts)) ListOf (row rows p).heavy (item_light p (plain_of (row rows p).alts) u.0)))
+    basic_light (list p) u = omega (arith, over_light (leaf IsList) ListOf item_op p u.0)
     basic_light (tuple ps) u = tuple_light ps u
-    basic_light (tuple_of p) u = cond_few (just_any (row rows p).alts) _ _ _ (omega arith) (omega (arith, end (code_each D p (plain_of (row rows p).alts)) (Write IsTupleOf 0 1) (row rows p).heavy (each_light p (plain_of (row rows p).alts) u.0)))
-    basic_light (dict k v) u = cond_few (just_any (row rows k).alts && just_any (row rows v).alts) _ _ _ (omega arith) (omega (arith, join (code_item D k (plain_of (row rows k).alts)) (D v ++ DictOf ∷ []) (row rows k).heavy ((row rows v).heavy + 1) (item_light k (plain_of (row rows k).alts) u.0) (end (D v) DictOf (row rows v).heavy (ih v u.1.0))))
+    basic_light (tuple_of p) u = omega (arith, over_light (type_id 8) (Write IsTupleOf 0 1) type_id p u.0)
+    basic_light (dict k v) u = cond_both (just_any (row rows k).alts && just_any (row rows v).alts) _ _ (Few (1 + total rows (parts (dict k v)))) (λ _. omega arith) (λ _. omega (arith, join (code_part item_op D k (plain_of (row rows k).alts)) (D v ++ DictOf ∷ []) (row rows k).heavy ((row rows v).heavy + 1) (part_light item_op k (plain_of (row rows k).alts) u.0) (end (D v) DictOf (row rows v).heavy (ih v u.1.0))))
     basic_light (custom n) u = omega arith
-    basic_light (set_of p) u = cond_few (just_any (row rows p).alts) _ _ _ (omega arith) (omega (arith, end (code_item D p (plain_of (row rows p).alts)) SetOf (row rows p).heavy (item_light p (plain_of (row rows p).alts) u.0)))
+    basic_light (set_of p) u = omega (arith, over_light (leaf IsSet) SetOf item_op p u.0)
 
     beside_light : (a : Alt) → all_under t (parts a) → length (code_beside rows w D a) ≤ 1 + total rows (parts a)
-    beside_light any u = basic_light any u
     beside_light (plain n) u = omega arith
-    beside_light (iter p) u = basic_light (iter p) u
-    beside_light callable u = basic_light callable u
-    beside_light kind u = basic_light kind u
-    beside_light (list p) u = basic_light (list p) u
-    beside_light (tuple ps) u = basic_light (tuple ps) u
-    beside_light (tuple_of p) u = basic_light (tuple_of p) u
-    beside_light (dict k v) u = basic_light (dict k v) u
-    beside_light (custom n) u = basic_light (custom n) u
-    beside_light (set_of p) u = basic_light (set_of p) u
+    beside_light a u = basic_light a u
 
     alts_light : (xs : List Alt) → AltsFine t xs → length (code_alts rows w D xs) ≤ weight_alts rows xs
     alts_light [] f = omega arith
@@ -89,9 +81,9 @@ module _ (rows : List Row) (w : ℕ → Bool) (sound : Fines rows) where
         let la = basic_light a f.0.0 in
         let lb = basic_light b f.1.0.0 in
         let n = weight_alts rows (a ∷ (b ∷ [])) + one_less (a ∷ (b ∷ [])) in
-        cond_few (is_none a) _ _ n (omega (arith, end (code_beside rows w D b) (Write IsAnyOfTwo 0 2) (1 + total rows (parts b)) (beside_light b f.1.0.0)))
-        (cond_few (is_none b) _ _ n (omega (arith, end (code_beside rows w D a) (Write IsAnyOfTwo 0 2) (1 + total rows (parts a)) (beside_light a f.0.0)))
-        (omega (arith, join (code_basic rows w D a) (code_basic rows w D b ++ AnyOfTwo ∷ []) (1 + total rows (parts a)) (1 + total rows (parts b) + 1) la (end (code_basic rows w D b) AnyOfTwo (1 + total rows (parts b)) lb))))
+        cond_both (is_none a) _ _ (Few n) (λ _. omega (arith, end (code_beside rows w D b) (Write IsAnyOfTwo 0 2) (1 + total rows (parts b)) (beside_light b f.1.0.0)))
+        (λ _. cond_both (is_none b) _ _ (Few n) (λ _. omega (arith, end (code_beside rows w D a) (Write IsAnyOfTwo 0 2) (1 + total rows (parts a)) (beside_light a f.0.0)))
+        (λ _. omega (arith, join (code_basic rows w D a) (code_basic rows w D b ++ AnyOfTwo ∷ []) (1 + total rows (parts a)) (1 + total rows (parts b) + 1) la (end (code_basic rows w D b) AnyOfTwo (1 + total rows (parts b)) lb))))
     union_light (a ∷ (b ∷ (c ∷ xs))) f = end (code_alts rows w D (a ∷ (b ∷ (c ∷ xs)))) (AnyOf (length (a ∷ (b ∷ (c ∷ xs))))) (weight_alts rows (a ∷ (b ∷ (c ∷ xs)))) (alts_light (a ∷ (b ∷ (c ∷ xs))) f)
 
   pub light_by : (f t : ℕ) → t < f → t < length rows → length (D t) ≤ (row rows t).heavy

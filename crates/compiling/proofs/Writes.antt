@@ -69,7 +69,7 @@ high_same ns ms (k ∷ ks) f b =
 abbrev Deeps : List Node → Type 0
 Deeps ns = (n : ℕ) → n < length ns → (get_or (depths ns) n 0 ≡ highest (depths ns) (node_at_lem ns n).kids + 1) × (all_below (length ns) (node_at_lem ns n).kids ≡ true)
 
-below_more : (n m : ℕ) (ks : List ℕ) → n ≤ m → all_below n ks ≡ true → all_below m ks ≡ true
+pub below_more : (n m : ℕ) (ks : List ℕ) → n ≤ m → all_below n ks ≡ true → all_below m ks ≡ true
 below_more n m [] l b = refl
 below_more n m (k ∷ ks) l b =
     let p = and_parts (ltb k n) (all_below n ks) b in

@@ -2,11 +2,11 @@
 use Rattle.std.proofs.Common.{◌≡◌, ℕ, zero, suc, ◌<◌, Bool, true, false, cond, ◌&&◌, eqb, List, [], ◌∷◌, ◌++◌, map, length, Some, None, Option, sym, refl, ap, ◌∙◌, subst, append_assoc, append-nil, arith}
 use lib.ListN.{length-map}
 use Rattle.matcher.specs.Nodes.{Node, node, place, put}
-use Rattle.matcher.specs.declared.kind.Kind.TheVariants.{IsAny, IsNever, IsList, IsTupleOf, IsTupleElems, IsTupleElems0, IsTupleElems1, IsTupleElems2, IsDict, IsSet, IsAnyOfTwo, IsCallable, IsType, IsIterable, IsNone, Custom}
+use Rattle.matcher.specs.declared.kind.Kind.TheVariants.{IsAny, IsNever, IsList, IsListOf, IsTupleOf, IsTupleElems, IsTupleElems0, IsTupleElems1, IsTupleElems2, IsDict, IsDictOf, IsSet, IsSetOf, IsAnyOfTwo, IsAnyOf, IsCallable, IsType, IsIterable, IsNone, Custom}
 use Rattle.membership.specs.Rows.{Alt, any, plain, iter, callable, kind, list, tuple, tuple_of, dict, custom, set_of, Row, row, parts}
 use Rattle.membership.specs.Readings.{just_any, plain_of}
-use Rattle.compiling.specs.Written.{Writer, writes, kids_written, over, matcher, list_of, set_of_kids, dict_of_lem, any_of_two, any_of_many, bare, id_node, value_node, item_node, beside_node, item_written, pair_written, tuple_written, each_written, basic_written, beside_written, none_or_written, union_written, written_within, written, is_none}
-use Rattle.compiling.specs.Code.{Codes, state, chosen, takes, exec, execs, code, leaf, type_id, value_op, item_op, beside_none_op, code_item, code_all, code_pair, code_tuple, code_each, code_basic, code_beside, code_none_or, code_alts, code_union}
+use Rattle.compiling.specs.Written.{Writer, writes, kids_written, over, matcher, unless_every, unless_some, bare, id_node, value_node, item_node, beside_node, part_written, over_written, pair_written, tuple_written, basic_written, beside_written, none_or_written, union_written, written_within, written, is_none}
+use Rattle.compiling.specs.Code.{Codes, state, chosen, takes, exec, execs, code, leaf, type_id, value_op, item_op, beside_none_op, code_part, code_over, code_all, code_pair, code_tuple, code_basic, code_beside, code_none_or, code_alts, code_union}
 use Rattle.compiling.specs.declared.tasks.Op.{Op}
 use Rattle.compiling.specs.declared.tasks.Op.TheVariants.{Write, ListOf, SetOf, DictOf, AnyOfTwo, AnyOf}
 use Rattle.compiling.proofs.Fines.{Fines, all_under, AltsFine}
@@ -69,13 +69,15 @@ module _ (sh : Bool) where
   id_does n = leaf_does (type_id n) (id_node n) refl (λ ns. refl)
 
   module _ (rows : List Row) (w : ℕ → Bool) (C : Codes) (D : ℕ → Writer) (t : ℕ) (ih : (p : ℕ) → p < t → Does (C p) (D p)) where
-    item_does : (p : ℕ) (o : Option ℕ) → p < t → Does (code_item C p o) (item_written sh D p o)
-    item_does p (Some n) l = item_op_does n
-    item_does p None l = ih p l
+    part_does : (op : ℕ → Op) (d : ℕ → Node) → ((n : ℕ) → Does (op n ∷ []) (writes sh (d n))) → (p : ℕ) (o : Option ℕ) → p < t → Does (code_part op C p o) (part_written sh d D p o)
+    part_does op d h p (Some n) l = h n
+    part_does op d h p None l = ih p l
 
-    each_does : (p : ℕ) (o : Option ℕ) → p < t → Does (code_each C p o) (each_written sh D p o)
-    each_does p (Some n) l = id_does n
-    each_does p None l = ih p l
+    over_part : (whole o : Op) (x : Node) (f : List Node → List ℕ → Node) (op : ℕ → Op) (d : ℕ → Node) → Does (whole ∷ []) (writes sh x) → takes o ≡ 1 → ((ns : List Node) (ks : List ℕ) → chosen o ns ks ≡ f ns ks) → ((n : ℕ) → Does (op n ∷ []) (writes sh (d n))) → (p : ℕ) → p < t → Does (code_over whole o op rows C p) (over_written sh x f d rows D p)
+    over_part whole o x f op d one e is h p l =
+        let y = plain_of (row rows p).alts in
+        cond_does (just_any (row rows p).alts) (whole ∷ []) (code_part op C p y ++ o ∷ []) (writes sh x) (over sh f (part_written sh d D p y ∷ []))
+        one (over_does (code_part op C p y) (part_written sh d D p y ∷ []) o f (part_does op d h p y l) e is)
 
     all_does : (ps : List ℕ) → all_under t ps → DoesAll (code_all C ps) (map D ps)
     all_does [] u = all_nil
@@ -113,40 +115,22 @@ module _ (sh : Bool) where
     basic_does (iter p) u = leaf_does (leaf IsIterable) (bare IsIterable) refl (λ ns. refl)
     basic_does callable u = leaf_does (leaf IsCallable) (bare IsCallable) refl (λ ns. refl)
     basic_does kind u = leaf_does (leaf IsType) (bare IsType) refl (λ ns. refl)
-    basic_does (list p) u =
-        let o = plain_of (row rows p).alts in
-        cond_does (just_any (row rows p).alts) (leaf IsList ∷ []) (code_item C p o ++ ListOf ∷ []) (writes sh (bare IsList)) (over sh list_of (item_written sh D p o ∷ []))
-        (leaf_does (leaf IsList) (bare IsList) refl (λ ns. refl)) (over_does (code_item C p o) (item_written sh D p o ∷ []) ListOf list_of (item_does p o u.0) refl (λ ns ks. refl))
+    basic_does (list p) u = over_part (leaf IsList) ListOf (bare IsList) (unless_every IsList IsListOf) item_op item_node (leaf_does (leaf IsList) (bare IsList) refl (λ ns. refl)) refl (λ ns ks. refl) item_op_does p u.0
     basic_does (tuple ps) u = tuple_does ps u
-    basic_does (tuple_of p) u =
-        let o = plain_of (row rows p).alts in
-        cond_does (just_any (row rows p).alts) (type_id 8 ∷ []) (code_each C p o ++ Write IsTupleOf 0 1 ∷ []) (writes sh (id_node 8)) (over sh (matcher IsTupleOf) (each_written sh D p o ∷ []))
-        (id_does 8) (over_does (code_each C p o) (each_written sh D p o ∷ []) (Write IsTupleOf 0 1) (matcher IsTupleOf) (each_does p o u.0) refl (λ ns ks. refl))
+    basic_does (tuple_of p) u = over_part (type_id 8) (Write IsTupleOf 0 1) (id_node 8) (matcher IsTupleOf) type_id id_node (id_does 8) refl (λ ns ks. refl) id_does p u.0
     basic_does (dict k v) u =
         let o = plain_of (row rows k).alts in
-        let fs = item_written sh D k o ∷ D v ∷ [] in
-        let kids = two_kids (code_item C k o) (C v) (item_written sh D k o) (D v) (item_does k o u.0) (ih v u.1.0) in
-        let all = over_does (code_item C k o ++ C v) (item_written sh D k o ∷ D v ∷ []) DictOf dict_of_lem kids refl (λ ns ks. refl) in
-        cond_does (just_any (row rows k).alts && just_any (row rows v).alts) (leaf IsDict ∷ []) (code_item C k o ++ (C v ++ DictOf ∷ [])) (writes sh (bare IsDict)) (over sh dict_of_lem (item_written sh D k o ∷ D v ∷ []))
-        (leaf_does (leaf IsDict) (bare IsDict) refl (λ ns. refl)) (subst (λ c. Does c (over sh dict_of_lem (item_written sh D k o ∷ D v ∷ []))) (append_assoc (code_item C k o) (C v) (DictOf ∷ [])) all)
+        let fs = part_written sh item_node D k o ∷ D v ∷ [] in
+        let kids = two_kids (code_part item_op C k o) (C v) (part_written sh item_node D k o) (D v) (part_does item_op item_node item_op_does k o u.0) (ih v u.1.0) in
+        let all = over_does (code_part item_op C k o ++ C v) (part_written sh item_node D k o ∷ D v ∷ []) DictOf (unless_every IsDict IsDictOf) kids refl (λ ns ks. refl) in
+        cond_does (just_any (row rows k).alts && just_any (row rows v).alts) (leaf IsDict ∷ []) (code_part item_op C k o ++ (C v ++ DictOf ∷ [])) (writes sh (bare IsDict)) (over sh (unless_every IsDict IsDictOf) (part_written sh item_node D k o ∷ D v ∷ []))
+        (leaf_does (leaf IsDict) (bare IsDict) refl (λ ns. refl)) (subst (λ c. Does c (over sh (unless_every IsDict IsDictOf) (part_written sh item_node D k o ∷ D v ∷ []))) (append_assoc (code_part item_op C k o) (C v) (DictOf ∷ [])) all)
     basic_does (custom n) u = custom_does n (w n)
-    basic_does (set_of p) u =
-        let o = plain_of (row rows p).alts in
-        cond_does (just_any (row rows p).alts) (leaf IsSet ∷ []) (code_item C p o ++ SetOf ∷ []) (writes sh (bare IsSet)) (over sh set_of_kids (item_written sh D p o ∷ []))
-        (leaf_does (leaf IsSet) (bare IsSet) refl (λ ns. refl)) (over_does (code_item C p o) (item_written sh D p o ∷ []) SetOf set_of_kids (item_does p o u.0) refl (λ ns ks. refl))
+    basic_does (set_of p) u = over_part (leaf IsSet) SetOf (bare IsSet) (unless_every IsSet IsSetOf) item_op item_node (leaf_does (leaf IsSet) (bare IsSet) refl (λ ns. refl)) refl (λ ns ks. refl) item_op_does p u.0
 
     beside_does : (a : Alt) → all_under t (parts a) → Does (code_beside rows w C a) (beside_written sh rows w D a)
-    beside_does any u = basic_does any u
     beside_does (plain n) u = beside_op_does n
-    beside_does (iter p) u = basic_does (iter p) u
-    beside_does callable u = basic_does callable u
-    beside_does kind u = basic_does kind u
-    beside_does (list p) u = basic_does (list p) u
-    beside_does (tuple ps) u = basic_does (tuple ps) u
-    beside_does (tuple_of p) u = basic_does (tuple_of p) u
-    beside_does (dict k v) u = basic_does (dict k v) u
-    beside_does (custom n) u = basic_does (custom n) u
-    beside_does (set_of p) u = basic_does (set_of p) u
+    beside_does a u = basic_does a u
 
     none_or_does : (a : Alt) → all_under t (parts a) → Does (code_none_or rows w C a) (none_or_written sh rows w D a)
     none_or_does a u =
@@ -165,13 +149,13 @@ module _ (sh : Bool) where
         let cb = code_basic rows w C b in
         let wa = basic_written sh rows w D a in
         let wb = basic_written sh rows w D b in
-        let all : Does ((code_basic rows w C a ++ code_basic rows w C b) ++ AnyOfTwo ∷ []) (over sh any_of_two (basic_written sh rows w D a ∷ basic_written sh rows w D b ∷ [])) = over_does (code_basic rows w C a ++ code_basic rows w C b) (basic_written sh rows w D a ∷ basic_written sh rows w D b ∷ []) AnyOfTwo any_of_two (two_kids ca cb wa wb (basic_does a f.0.0) (basic_does b f.1.0.0)) refl (λ ns ks. refl) in
-        cond_does (is_none a) (code_none_or rows w C b) (cond (is_none b) (code_none_or rows w C a) (ca ++ (cb ++ AnyOfTwo ∷ []))) (none_or_written sh rows w D b) (cond (is_none b) (none_or_written sh rows w D a) (over sh any_of_two (wa ∷ wb ∷ [])))
+        let all : Does ((code_basic rows w C a ++ code_basic rows w C b) ++ AnyOfTwo ∷ []) (over sh (unless_some IsAnyOfTwo) (basic_written sh rows w D a ∷ basic_written sh rows w D b ∷ [])) = over_does (code_basic rows w C a ++ code_basic rows w C b) (basic_written sh rows w D a ∷ basic_written sh rows w D b ∷ []) AnyOfTwo (unless_some IsAnyOfTwo) (two_kids ca cb wa wb (basic_does a f.0.0) (basic_does b f.1.0.0)) refl (λ ns ks. refl) in
+        cond_does (is_none a) (code_none_or rows w C b) (cond (is_none b) (code_none_or rows w C a) (ca ++ (cb ++ AnyOfTwo ∷ []))) (none_or_written sh rows w D b) (cond (is_none b) (none_or_written sh rows w D a) (over sh (unless_some IsAnyOfTwo) (wa ∷ wb ∷ [])))
         (none_or_does b f.1.0.0)
-        (cond_does (is_none b) (code_none_or rows w C a) (ca ++ (cb ++ AnyOfTwo ∷ [])) (none_or_written sh rows w D a) (over sh any_of_two (wa ∷ wb ∷ [])) (none_or_does a f.0.0)
-        (subst (λ c. Does c (over sh any_of_two (basic_written sh rows w D a ∷ basic_written sh rows w D b ∷ []))) (append_assoc ca cb (AnyOfTwo ∷ [])) all))
+        (cond_does (is_none b) (code_none_or rows w C a) (ca ++ (cb ++ AnyOfTwo ∷ [])) (none_or_written sh rows w D a) (over sh (unless_some IsAnyOfTwo) (wa ∷ wb ∷ [])) (none_or_does a f.0.0)
+        (subst (λ c. Does c (over sh (unless_some IsAnyOfTwo) (basic_written sh rows w D a ∷ basic_written sh rows w D b ∷ []))) (append_assoc ca cb (AnyOfTwo ∷ [])) all))
     union_does (a ∷ (b ∷ (c ∷ xs))) f =
-        over_does (code_alts rows w C (a ∷ (b ∷ (c ∷ xs)))) (map (basic_written sh rows w D) (a ∷ (b ∷ (c ∷ xs)))) (AnyOf (length (a ∷ (b ∷ (c ∷ xs))))) any_of_many (alts_does (a ∷ (b ∷ (c ∷ xs))) f) (sym (length-map (a ∷ (b ∷ (c ∷ xs))) (basic_written sh rows w D))) (λ ns ks. refl)
+        over_does (code_alts rows w C (a ∷ (b ∷ (c ∷ xs)))) (map (basic_written sh rows w D) (a ∷ (b ∷ (c ∷ xs)))) (AnyOf (length (a ∷ (b ∷ (c ∷ xs))))) (unless_some IsAnyOf) (alts_does (a ∷ (b ∷ (c ∷ xs))) f) (sym (length-map (a ∷ (b ∷ (c ∷ xs))) (basic_written sh rows w D))) (λ ns ks. refl)
 
   module _ (rows : List Row) (w : ℕ → Bool) (fine : Fines rows) where
     does_by : (f t : ℕ) → t < f → t < length rows → Does (code rows w t) (written_within f sh rows w t)

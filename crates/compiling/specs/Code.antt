@@ -2,8 +2,8 @@
 use Rattle.std.specs.Prelude.{◌≡◌, ℕ, zero, suc, ◌-◌, ◌≤◌, Bool, true, cond, ◌&&◌, List, [], ◌∷◌, ◌++◌, length, take, drop, Some, None, Option, ◌==◌}
 use Rattle.matcher.specs.Nodes.{Node, node, place, put, fault, roomy}
 use Rattle.matcher.specs.declared.kind.Kind.{Kind}
-use Rattle.matcher.specs.declared.kind.Kind.TheVariants.{IsAny, IsNever, IsStr, IsList, IsTupleOf, IsTupleElems, IsTupleElems0, IsTupleElems1, IsTupleElems2, IsDict, IsSet, IsAnyOfTwo, IsCallable, IsType, IsIterable, IsInt, IsBool, IsNone, StarlarkTypeIdMatcher, Custom}
-use Rattle.compiling.specs.Written.{is_none, list_of, set_of_kids, dict_of_lem, any_of_two, any_of_many}
+use Rattle.matcher.specs.declared.kind.Kind.TheVariants.{IsAny, IsNever, IsStr, IsList, IsListOf, IsTupleOf, IsTupleElems, IsTupleElems0, IsTupleElems1, IsTupleElems2, IsDict, IsDictOf, IsSet, IsSetOf, IsAnyOfTwo, IsAnyOf, IsCallable, IsType, IsIterable, IsInt, IsBool, IsNone, StarlarkTypeIdMatcher, Custom}
+use Rattle.compiling.specs.Written.{is_none, unless_every, unless_some}
 use Rattle.compiling.specs.declared.tasks.Op.{Op}
 use Rattle.compiling.specs.declared.tasks.Op.TheVariants.{Write, ListOf, SetOf, DictOf, AnyOfTwo, AnyOf}
 use Rattle.membership.specs.Rows.{Alt, any, plain, iter, callable, kind, list, tuple, tuple_of, dict, custom, set_of, Row, row}
@@ -34,20 +34,19 @@ beside_none_op n = cond (n == 4) (leaf IsStr) (cond (n == 1) (leaf IsInt) (type_
 abbrev pub Codes : Type 0
 Codes = ℕ → List Op
 
-abbrev pub code_item : Codes → ℕ → Option ℕ → List Op
-code_item C t (Some n) = item_op n ∷ []
-code_item C t None = C t
+-- a part: the step of its plain type, or its code
+abbrev pub code_part : (ℕ → Op) → Codes → ℕ → Option ℕ → List Op
+code_part op C t (Some n) = op n ∷ []
+code_part op C t None = C t
 
-abbrev pub code_list : List Row → Codes → ℕ → List Op
-code_list rows C t = cond (just_any (row rows t).alts) (leaf IsList ∷ []) (code_item C t (plain_of (row rows t).alts) ++ ListOf ∷ [])
-
-abbrev pub code_set : List Row → Codes → ℕ → List Op
-code_set rows C t = cond (just_any (row rows t).alts) (leaf IsSet ∷ []) (code_item C t (plain_of (row rows t).alts) ++ SetOf ∷ [])
+-- a type over one part: one step where the part is anything
+abbrev pub code_over : Op → Op → (ℕ → Op) → List Row → Codes → ℕ → List Op
+code_over whole o op rows C t = cond (just_any (row rows t).alts) (whole ∷ []) (code_part op C t (plain_of (row rows t).alts) ++ o ∷ [])
 
 abbrev pub code_dict : List Row → Codes → ℕ → ℕ → List Op
 code_dict rows C k v =
     cond (just_any (row rows k).alts && just_any (row rows v).alts) (leaf IsDict ∷ [])
-    (code_item C k (plain_of (row rows k).alts) ++ (C v ++ DictOf ∷ []))
+    (code_part item_op C k (plain_of (row rows k).alts) ++ (C v ++ DictOf ∷ []))
 
 abbrev pub code_all : Codes → List ℕ → List Op
 code_all C [] = []
@@ -64,40 +63,28 @@ code_tuple rows C (x ∷ []) = C x ++ Write IsTupleElems1 0 1 ∷ []
 code_tuple rows C (x ∷ (y ∷ [])) = code_pair C x y (plain_of (row rows x).alts) (plain_of (row rows y).alts) ++ Write IsTupleElems2 0 2 ∷ []
 code_tuple rows C (x ∷ (y ∷ (z ∷ zs))) = code_all C (x ∷ (y ∷ (z ∷ zs))) ++ Write IsTupleElems 0 (length (x ∷ (y ∷ (z ∷ zs)))) ∷ []
 
-abbrev pub code_each : Codes → ℕ → Option ℕ → List Op
-code_each C t (Some n) = type_id n ∷ []
-code_each C t None = C t
+-- a custom, where the customs' wildcards are w
+abbrev pub custom_op : (ℕ → Bool) → ℕ → Op
+custom_op w n = cond (w n) (leaf IsAny) (Write Custom n 0)
 
-abbrev pub code_tuple_of : List Row → Codes → ℕ → List Op
-code_tuple_of rows C t = cond (just_any (row rows t).alts) (type_id 8 ∷ []) (code_each C t (plain_of (row rows t).alts) ++ Write IsTupleOf 0 1 ∷ [])
-
--- one alternative, where the customs' wildcards are w
+-- one alternative
 abbrev pub code_basic : List Row → (ℕ → Bool) → Codes → Alt → List Op
 code_basic rows w C any = leaf IsAny ∷ []
 code_basic rows w C (plain n) = value_op n ∷ []
 code_basic rows w C (iter t) = leaf IsIterable ∷ []
 code_basic rows w C callable = leaf IsCallable ∷ []
 code_basic rows w C kind = leaf IsType ∷ []
-code_basic rows w C (list t) = code_list rows C t
+code_basic rows w C (list t) = code_over (leaf IsList) ListOf item_op rows C t
 code_basic rows w C (tuple ts) = code_tuple rows C ts
-code_basic rows w C (tuple_of t) = code_tuple_of rows C t
+code_basic rows w C (tuple_of t) = code_over (type_id 8) (Write IsTupleOf 0 1) type_id rows C t
 code_basic rows w C (dict k v) = code_dict rows C k v
-code_basic rows w C (custom n) = cond (w n) (leaf IsAny) (Write Custom n 0) ∷ []
-code_basic rows w C (set_of t) = code_set rows C t
+code_basic rows w C (custom n) = custom_op w n ∷ []
+code_basic rows w C (set_of t) = code_over (leaf IsSet) SetOf item_op rows C t
 
 -- the side beside None
 abbrev pub code_beside : List Row → (ℕ → Bool) → Codes → Alt → List Op
-code_beside rows w C any = code_basic rows w C any
 code_beside rows w C (plain n) = beside_none_op n ∷ []
-code_beside rows w C (iter t) = code_basic rows w C (iter t)
-code_beside rows w C callable = code_basic rows w C callable
-code_beside rows w C kind = code_basic rows w C kind
-code_beside rows w C (list t) = code_basic rows w C (list t)
-code_beside rows w C (tuple ts) = code_basic rows w C (tuple ts)
-code_beside rows w C (tuple_of t) = code_basic rows w C (tuple_of t)
-code_beside rows w C (dict k v) = code_basic rows w C (dict k v)
-code_beside rows w C (custom n) = code_basic rows w C (custom n)
-code_beside rows w C (set_of t) = code_basic rows w C (set_of t)
+code_beside rows w C a = code_basic rows w C a
 
 abbrev pub code_none_or : List Row → (ℕ → Bool) → Codes → Alt → List Op
 code_none_or rows w C a = leaf IsNone ∷ (code_beside rows w C a ++ Write IsAnyOfTwo 0 2 ∷ [])
@@ -139,11 +126,11 @@ takes (AnyOf n) = n
 -- the node that a step writes over these kids
 abbrev pub chosen : Op → List Node → List ℕ → Node
 chosen (Write k m n) ns ks = node k m ks
-chosen ListOf ns ks = list_of ns ks
-chosen SetOf ns ks = set_of_kids ns ks
-chosen DictOf ns ks = dict_of_lem ns ks
-chosen AnyOfTwo ns ks = any_of_two ns ks
-chosen (AnyOf n) ns ks = any_of_many ns ks
+chosen ListOf ns ks = unless_every IsList IsListOf ns ks
+chosen SetOf ns ks = unless_every IsSet IsSetOf ns ks
+chosen DictOf ns ks = unless_every IsDict IsDictOf ns ks
+chosen AnyOfTwo ns ks = unless_some IsAnyOfTwo ns ks
+chosen (AnyOf n) ns ks = unless_some IsAnyOf ns ks
 
 -- the nodes, and the results that wait for their parent
 pub record State : Type 0 where

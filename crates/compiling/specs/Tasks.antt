@@ -1,11 +1,11 @@
 -- What each task stands for, and what it is expanded to. Assumes nothing.
 use Rattle.std.specs.Prelude.{◌≡◌, ℕ, ◌+◌, ◌-◌, ◌*◌, ◌<◌, ◌≤◌, Bool, cond, ◌&&◌, List, [], ◌∷◌, ◌++◌, length, drop, Some, None, Option, ◌==◌, nat_lt, slice_index}
 use Rattle.matcher.specs.declared.kind.Kind.{Kind}
-use Rattle.matcher.specs.declared.kind.Kind.TheVariants.{IsAny, IsNever, IsList, IsTupleOf, IsTupleElems, IsTupleElems0, IsTupleElems1, IsTupleElems2, IsDict, IsSet, IsAnyOfTwo, IsCallable, IsType, IsIterable, IsNone, Custom as CustomKind}
+use Rattle.matcher.specs.declared.kind.Kind.TheVariants.{IsAny, IsNever, IsList, IsTupleOf, IsTupleElems, IsTupleElems0, IsTupleElems1, IsTupleElems2, IsDict, IsSet, IsAnyOfTwo, IsCallable, IsType, IsIterable, IsNone}
 use Rattle.compiling.specs.Limits.{most_load, most_results}
 use Rattle.membership.specs.Rows.{Alt, any, plain, iter, callable, kind, list, tuple, tuple_of, dict, custom, set_of, Row, row}
 use Rattle.membership.specs.Readings.{alt_at, just_any, plain_of, elems}
-use Rattle.compiling.specs.Code.{Codes, State, code_basic, code_alts, code_all, leaf, type_id, value_op, item_op, beside_none_op, code, exec, execs, Safe, Grants}
+use Rattle.compiling.specs.Code.{Codes, State, code_basic, code_alts, code_all, leaf, type_id, value_op, item_op, beside_none_op, custom_op, code, exec, execs, Safe, Grants}
 use Rattle.compiling.specs.Written.{is_none}
 use Rattle.compiling.specs.declared.tasks.Op.{Op}
 use Rattle.compiling.specs.declared.tasks.Op.TheVariants.{Write, ListOf, SetOf, DictOf, AnyOfTwo, AnyOf}
@@ -60,22 +60,17 @@ listed (Three a b c) = a ∷ b ∷ c ∷ []
 abbrev pub leaf_task : Kind → Task
 leaf_task k = Step (leaf k)
 
-abbrev pub item_task : ℕ → Option ℕ → Task
-item_task t (Some n) = Step (item_op n)
-item_task t None = Ty t
+-- a part: the step of its plain type, or the type
+abbrev pub part_task : (ℕ → Op) → ℕ → Option ℕ → Task
+part_task op t (Some n) = Step (op n)
+part_task op t None = Ty t
 
-abbrev pub each_task : ℕ → Option ℕ → Task
-each_task t (Some n) = Step (type_id n)
-each_task t None = Ty t
-
-abbrev pub expand_list : List Row → ℕ → Expansion
-expand_list rows t = cond (just_any (row rows t).alts) (One (leaf_task IsList)) (Two (Step ListOf) (item_task t (plain_of (row rows t).alts)))
-
-abbrev pub expand_set : List Row → ℕ → Expansion
-expand_set rows t = cond (just_any (row rows t).alts) (One (leaf_task IsSet)) (Two (Step SetOf) (item_task t (plain_of (row rows t).alts)))
+-- a type over one part: one step where the part is anything
+abbrev pub expand_over : Op → Op → (ℕ → Op) → List Row → ℕ → Expansion
+expand_over whole o op rows t = cond (just_any (row rows t).alts) (One (Step whole)) (Two (Step o) (part_task op t (plain_of (row rows t).alts)))
 
 abbrev pub expand_dict : List Row → ℕ → ℕ → Expansion
-expand_dict rows k v = cond (just_any (row rows k).alts && just_any (row rows v).alts) (One (leaf_task IsDict)) (Three (Step DictOf) (Ty v) (item_task k (plain_of (row rows k).alts)))
+expand_dict rows k v = cond (just_any (row rows k).alts && just_any (row rows v).alts) (One (leaf_task IsDict)) (Three (Step DictOf) (Ty v) (part_task item_op k (plain_of (row rows k).alts)))
 
 abbrev pub expand_pair : ℕ → ℕ → Option ℕ → Option ℕ → Expansion
 expand_pair x y (Some a) (Some b) = Three (Step (Write IsTupleElems2 0 2)) (Step (type_id b)) (Step (type_id a))
@@ -90,9 +85,6 @@ elems_by rows t i es n =
     (cond (n == 2) (expand_pair (slice_index es 0) (slice_index es 1) (plain_of (row rows (slice_index es 0)).alts) (plain_of (row rows (slice_index es 1)).alts))
     (Two (Step (Write IsTupleElems 0 n)) (Elements t i 0))))
 
-abbrev pub expand_tuple_of : List Row → ℕ → Expansion
-expand_tuple_of rows t = cond (just_any (row rows t).alts) (One (Step (type_id 8))) (Two (Step (Write IsTupleOf 0 1)) (each_task t (plain_of (row rows t).alts)))
-
 -- the alternative i of the type t
 abbrev pub expand_basic : List Row → (ℕ → Bool) → ℕ → ℕ → Alt → Expansion
 expand_basic rows w t i any = One (leaf_task IsAny)
@@ -100,25 +92,16 @@ expand_basic rows w t i (plain n) = One (Step (value_op n))
 expand_basic rows w t i (iter u) = One (leaf_task IsIterable)
 expand_basic rows w t i callable = One (leaf_task IsCallable)
 expand_basic rows w t i kind = One (leaf_task IsType)
-expand_basic rows w t i (list u) = expand_list rows u
+expand_basic rows w t i (list u) = expand_over (leaf IsList) ListOf item_op rows u
 expand_basic rows w t i (tuple ts) = elems_by rows t i ts (length ts)
-expand_basic rows w t i (tuple_of u) = expand_tuple_of rows u
+expand_basic rows w t i (tuple_of u) = expand_over (type_id 8) (Write IsTupleOf 0 1) type_id rows u
 expand_basic rows w t i (dict k v) = expand_dict rows k v
-expand_basic rows w t i (custom n) = One (Step (cond (w n) (leaf IsAny) (Write CustomKind n 0)))
-expand_basic rows w t i (set_of u) = expand_set rows u
+expand_basic rows w t i (custom n) = One (Step (custom_op w n))
+expand_basic rows w t i (set_of u) = expand_over (leaf IsSet) SetOf item_op rows u
 
 abbrev pub beside_task : ℕ → ℕ → Alt → Task
-beside_task t i any = Basic t i
 beside_task t i (plain n) = Step (beside_none_op n)
-beside_task t i (iter u) = Basic t i
-beside_task t i callable = Basic t i
-beside_task t i kind = Basic t i
-beside_task t i (list u) = Basic t i
-beside_task t i (tuple ts) = Basic t i
-beside_task t i (tuple_of u) = Basic t i
-beside_task t i (dict k v) = Basic t i
-beside_task t i (custom n) = Basic t i
-beside_task t i (set_of u) = Basic t i
+beside_task t i _ = Basic t i
 
 abbrev pub expand_none_or : ℕ → ℕ → Alt → Expansion
 expand_none_or t i a = Three (Step (Write IsAnyOfTwo 0 2)) (beside_task t i a) (leaf_task IsNone)
@@ -149,18 +132,12 @@ expand rows w (Step o) = Zero
 
 -- the nodes and results after a task was taken up
 abbrev pub advance : Bool → Task → State → State
-advance shares (Ty t) st = st
-advance shares (Basic t i) st = st
-advance shares (Alternatives t i) st = st
-advance shares (Elements t i j) st = st
 advance shares (Step o) st = exec shares o st
+advance shares _ st = st
 
 abbrev pub Ready : ℕ → Task → State → Type 0
-Ready limit (Ty t) st = Unit {0}
-Ready limit (Basic t i) st = Unit {0}
-Ready limit (Alternatives t i) st = Unit {0}
-Ready limit (Elements t i j) st = Unit {0}
 Ready limit (Step o) st = Grants limit o st × (length st.results < most_results)
+Ready limit _ st = Unit {0}
 
 -- the loop: taking the steps that are left leads to the end
 pub record Going (rows : List Row) (w : ℕ → Bool) (shares : Bool) (limit : ℕ) (end : State) (tasks : List Task) (st : State) : Type 0 where

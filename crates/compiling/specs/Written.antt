@@ -1,5 +1,6 @@
 -- The nodes that each type is written as, in a store that shares or not. Assumes nothing.
-use Rattle.std.specs.Prelude.{ℕ, zero, suc, Bool, true, false, cond, ◌&&◌, ◌||◌, List, [], ◌∷◌, map, Some, None, Option, ◌==◌}
+use Rattle.std.specs.Prelude.{ℕ, zero, suc, Bool, true, false, cond, ◌&&◌, List, [], ◌∷◌, map, Some, None, Option, ◌==◌}
+use Rattle.std.specs.List.{list_any, list_all}
 use Rattle.matcher.specs.Nodes.{Node, node, node_at_lem, place, put}
 use Rattle.matcher.specs.declared.kind.Kind.{Kind}
 use Rattle.matcher.specs.declared.kind.Kind.TheVariants.{IsAny, IsNever, IsStr, IsList, IsListOf, IsTupleOf, IsTupleElems, IsTupleElems0, IsTupleElems1, IsTupleElems2, IsDict, IsDictOf, IsSet, IsSetOf, IsAnyOfTwo, IsAnyOf, IsCallable, IsType, IsIterable, IsInt, IsBool, IsNone, StarlarkTypeIdMatcher, Custom}
@@ -38,63 +39,31 @@ over shares f fs ns = let kids = kids_written fs ns in writes shares (f kids.nod
 -- only `IsAny` is a wildcard
 abbrev pub is_any_kind_lem : Kind → Bool
 is_any_kind_lem IsAny = true
-is_any_kind_lem IsNever = false
-is_any_kind_lem IsStr = false
-is_any_kind_lem IsList = false
-is_any_kind_lem IsListOf = false
-is_any_kind_lem IsTupleOf = false
-is_any_kind_lem IsTupleElems = false
-is_any_kind_lem IsTupleElems0 = false
-is_any_kind_lem IsTupleElems1 = false
-is_any_kind_lem IsTupleElems2 = false
-is_any_kind_lem IsDict = false
-is_any_kind_lem IsDictOf = false
-is_any_kind_lem IsSet = false
-is_any_kind_lem IsSetOf = false
-is_any_kind_lem IsAnyOfTwo = false
-is_any_kind_lem IsAnyOf = false
-is_any_kind_lem IsCallable = false
-is_any_kind_lem IsType = false
-is_any_kind_lem IsIterable = false
-is_any_kind_lem IsInt = false
-is_any_kind_lem IsBool = false
-is_any_kind_lem IsNone = false
-is_any_kind_lem StarlarkTypeIdMatcher = false
-is_any_kind_lem Custom = false
+is_any_kind_lem _ = false
 
 abbrev pub wildcard : List Node → ℕ → Bool
 wildcard ns k = is_any_kind_lem (node_at_lem ns k).kind
 
 abbrev pub some_wildcard : List Node → List ℕ → Bool
-some_wildcard ns [] = false
-some_wildcard ns (k ∷ ks) = wildcard ns k || some_wildcard ns ks
+some_wildcard ns ks = list_any (wildcard ns) ks
 
 abbrev pub every_wildcard : List Node → List ℕ → Bool
-every_wildcard ns [] = true
-every_wildcard ns (k ∷ ks) = wildcard ns k && every_wildcard ns ks
+every_wildcard ns ks = list_all (wildcard ns) ks
 
 abbrev pub bare : Kind → Node
 bare k = node k 0 []
 
--- the nodes over kids: a list, set or dict of wildcards is one of anything; a dict keeps a lone wildcard;
--- a union with a wildcard side is a wildcard
+-- the node of a kind over kids
 abbrev pub matcher : Kind → List Node → List ℕ → Node
 matcher k ns ks = node k 0 ks
 
-abbrev pub list_of : List Node → List ℕ → Node
-list_of ns ks = cond (every_wildcard ns ks) (bare IsList) (node IsListOf 0 ks)
+-- a list, set or dict of wildcards is one of anything; a dict keeps a lone wildcard
+abbrev pub unless_every : Kind → Kind → List Node → List ℕ → Node
+unless_every whole k ns ks = cond (every_wildcard ns ks) (bare whole) (node k 0 ks)
 
-abbrev pub set_of_kids : List Node → List ℕ → Node
-set_of_kids ns ks = cond (every_wildcard ns ks) (bare IsSet) (node IsSetOf 0 ks)
-
-abbrev pub dict_of_lem : List Node → List ℕ → Node
-dict_of_lem ns ks = cond (every_wildcard ns ks) (bare IsDict) (node IsDictOf 0 ks)
-
-abbrev pub any_of_two : List Node → List ℕ → Node
-any_of_two ns ks = cond (some_wildcard ns ks) (bare IsAny) (node IsAnyOfTwo 0 ks)
-
-abbrev pub any_of_many : List Node → List ℕ → Node
-any_of_many ns ks = cond (some_wildcard ns ks) (bare IsAny) (node IsAnyOf 0 ks)
+-- a union with a wildcard side is a wildcard
+abbrev pub unless_some : Kind → List Node → List ℕ → Node
+unless_some k ns ks = cond (some_wildcard ns ks) (bare IsAny) (node k 0 ks)
 
 -- a plain type: by itself, as the item of a list or set or a dict's key, beside None
 abbrev pub id_node : ℕ → Node
@@ -111,19 +80,17 @@ beside_node n = cond (n == 4) (bare IsStr) (cond (n == 1) (bare IsInt) (id_node 
 
 -- below, `shares` says whether the store shares, `w` which customs are wildcards, and `C` how the parts' types are written
 
--- an item or a key: the plain type, or the type as it is written
-abbrev pub item_written : Bool → (ℕ → Writer) → ℕ → Option ℕ → Writer
-item_written shares C t (Some n) = writes shares (item_node n)
-item_written shares C t None = C t
+-- a part: the node of its plain type, or the type as it is written
+abbrev pub part_written : Bool → (ℕ → Node) → (ℕ → Writer) → ℕ → Option ℕ → Writer
+part_written shares d C t (Some n) = writes shares (d n)
+part_written shares d C t None = C t
 
-abbrev pub list_written : Bool → List Row → (ℕ → Writer) → ℕ → Writer
-list_written shares rows C t = cond (just_any (row rows t).alts) (writes shares (bare IsList)) (over shares list_of (item_written shares C t (plain_of (row rows t).alts) ∷ []))
-
-abbrev pub set_written : Bool → List Row → (ℕ → Writer) → ℕ → Writer
-set_written shares rows C t = cond (just_any (row rows t).alts) (writes shares (bare IsSet)) (over shares set_of_kids (item_written shares C t (plain_of (row rows t).alts) ∷ []))
+-- a type over one part: one node where the part is anything
+abbrev pub over_written : Bool → Node → (List Node → List ℕ → Node) → (ℕ → Node) → List Row → (ℕ → Writer) → ℕ → Writer
+over_written shares whole f d rows C t = cond (just_any (row rows t).alts) (writes shares whole) (over shares f (part_written shares d C t (plain_of (row rows t).alts) ∷ []))
 
 abbrev pub dict_written : Bool → List Row → (ℕ → Writer) → ℕ → ℕ → Writer
-dict_written shares rows C k v = cond (just_any (row rows k).alts && just_any (row rows v).alts) (writes shares (bare IsDict)) (over shares dict_of_lem (item_written shares C k (plain_of (row rows k).alts) ∷ C v ∷ []))
+dict_written shares rows C k v = cond (just_any (row rows k).alts && just_any (row rows v).alts) (writes shares (bare IsDict)) (over shares (unless_every IsDict IsDictOf) (part_written shares item_node C k (plain_of (row rows k).alts) ∷ C v ∷ []))
 
 -- two elements: both plain types, or both as they are written
 abbrev pub pair_written : Bool → (ℕ → Writer) → ℕ → ℕ → Option ℕ → Option ℕ → List Writer
@@ -137,13 +104,6 @@ tuple_written shares rows C (x ∷ []) = over shares (matcher IsTupleElems1) (C 
 tuple_written shares rows C (x ∷ (y ∷ [])) = over shares (matcher IsTupleElems2) (pair_written shares C x y (plain_of (row rows x).alts) (plain_of (row rows y).alts))
 tuple_written shares rows C (x ∷ (y ∷ (z ∷ zs))) = over shares (matcher IsTupleElems) (map C (x ∷ (y ∷ (z ∷ zs))))
 
-abbrev pub each_written : Bool → (ℕ → Writer) → ℕ → Option ℕ → Writer
-each_written shares C t (Some n) = writes shares (id_node n)
-each_written shares C t None = C t
-
-abbrev pub tuple_of_written : Bool → List Row → (ℕ → Writer) → ℕ → Writer
-tuple_of_written shares rows C t = cond (just_any (row rows t).alts) (writes shares (id_node 8)) (over shares (matcher IsTupleOf) (each_written shares C t (plain_of (row rows t).alts) ∷ []))
-
 -- one alternative
 abbrev pub basic_written : Bool → List Row → (ℕ → Bool) → (ℕ → Writer) → Alt → Writer
 basic_written shares rows w C any = writes shares (bare IsAny)
@@ -151,39 +111,21 @@ basic_written shares rows w C (plain n) = writes shares (value_node n)
 basic_written shares rows w C (iter t) = writes shares (bare IsIterable)
 basic_written shares rows w C callable = writes shares (bare IsCallable)
 basic_written shares rows w C kind = writes shares (bare IsType)
-basic_written shares rows w C (list t) = list_written shares rows C t
+basic_written shares rows w C (list t) = over_written shares (bare IsList) (unless_every IsList IsListOf) item_node rows C t
 basic_written shares rows w C (tuple ts) = tuple_written shares rows C ts
-basic_written shares rows w C (tuple_of t) = tuple_of_written shares rows C t
+basic_written shares rows w C (tuple_of t) = over_written shares (id_node 8) (matcher IsTupleOf) id_node rows C t
 basic_written shares rows w C (dict k v) = dict_written shares rows C k v
 basic_written shares rows w C (custom n) = writes shares (cond (w n) (bare IsAny) (node Custom n []))
-basic_written shares rows w C (set_of t) = set_written shares rows C t
+basic_written shares rows w C (set_of t) = over_written shares (bare IsSet) (unless_every IsSet IsSetOf) item_node rows C t
 
 abbrev pub is_none : Alt → Bool
-is_none any = false
 is_none (plain n) = n == 3
-is_none (iter t) = false
-is_none callable = false
-is_none kind = false
-is_none (list t) = false
-is_none (tuple ts) = false
-is_none (tuple_of t) = false
-is_none (dict k v) = false
-is_none (custom n) = false
-is_none (set_of t) = false
+is_none _ = false
 
 -- the side beside None
 abbrev pub beside_written : Bool → List Row → (ℕ → Bool) → (ℕ → Writer) → Alt → Writer
-beside_written shares rows w C any = basic_written shares rows w C any
 beside_written shares rows w C (plain n) = writes shares (beside_node n)
-beside_written shares rows w C (iter t) = basic_written shares rows w C (iter t)
-beside_written shares rows w C callable = basic_written shares rows w C callable
-beside_written shares rows w C kind = basic_written shares rows w C kind
-beside_written shares rows w C (list t) = basic_written shares rows w C (list t)
-beside_written shares rows w C (tuple ts) = basic_written shares rows w C (tuple ts)
-beside_written shares rows w C (tuple_of t) = basic_written shares rows w C (tuple_of t)
-beside_written shares rows w C (dict k v) = basic_written shares rows w C (dict k v)
-beside_written shares rows w C (custom n) = basic_written shares rows w C (custom n)
-beside_written shares rows w C (set_of t) = basic_written shares rows w C (set_of t)
+beside_written shares rows w C a = basic_written shares rows w C a
 
 -- None first, then the other side; a wildcard stays as its kid
 abbrev pub none_or_written : Bool → List Row → (ℕ → Bool) → (ℕ → Writer) → Alt → Writer
@@ -196,8 +138,8 @@ union_written shares rows w C (a ∷ []) = basic_written shares rows w C a
 union_written shares rows w C (a ∷ (b ∷ [])) =
     cond (is_none a) (none_or_written shares rows w C b)
     (cond (is_none b) (none_or_written shares rows w C a)
-    (over shares any_of_two (basic_written shares rows w C a ∷ basic_written shares rows w C b ∷ [])))
-union_written shares rows w C (a ∷ (b ∷ (c ∷ xs))) = over shares any_of_many (map (basic_written shares rows w C) (a ∷ (b ∷ (c ∷ xs))))
+    (over shares (unless_some IsAnyOfTwo) (basic_written shares rows w C a ∷ basic_written shares rows w C b ∷ [])))
+union_written shares rows w C (a ∷ (b ∷ (c ∷ xs))) = over shares (unless_some IsAnyOf) (map (basic_written shares rows w C) (a ∷ (b ∷ (c ∷ xs))))
 
 -- the type t, whose parts are numbered below it: t + 1 levels are enough
 unfoldable pub written_within : ℕ → Bool → List Row → (ℕ → Bool) → ℕ → Writer

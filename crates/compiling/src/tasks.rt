@@ -28,6 +28,7 @@ pub enum Task {
 }
 
 // What a task is expanded to, the last first.
+// Kept as an enum: an `ArrayVec` of three asks for a default task, and for pushes where each list here is one expression.
 #[derive(Clone, Copy)]
 pub enum Expansion {
     Zero,

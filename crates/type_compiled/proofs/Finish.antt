@@ -1,24 +1,14 @@
 -- What alloc_ty leaves. Assumes nothing.
-use Rattle.std.proofs.Common.{◌≡◌, ℕ, ◌+◌, ◌≤◌, Bool, true, cond, List, [], ◌∷◌, ◌++◌, length, take, sym, refl, ap, ◌∙◌, subst, ap₂, arith}
-use Rattle.std.proofs.lemmas.List.{get_or_push, take_all}
-use Rattle.std.proofs.lemmas.Bool.{le-ltb}
+use Rattle.std.proofs.Common.{◌≡◌, ℕ, Bool, true, List, [], ◌∷◌, ◌++◌, length, take, sym, refl, ap, ◌∙◌, subst, ap₂}
+use Rattle.std.proofs.lemmas.List.{get_or_push}
 use Rattle.custom.specs.Customs.{Custom, Open}
 use Rattle.matcher.specs.Nodes.{Node, valid}
-use Rattle.membership.specs.Rows.{Row, row, Sound}
+use Rattle.membership.specs.Rows.{Row, Sound}
 use Rattle.compiling.specs.Written.{written}
 use Rattle.compiling.specs.Outcomes.{alloc_ty_lem, granted, entered, annotation, Means}
-use Rattle.compiling.specs.Tasks.{expand_alternatives}
 use Rattle.compiling.specs.declared.annotation.Annotation.{Annotation}
-use Rattle.compiling.specs.declared.tasks.Task.TheVariants.{Basic, Alternatives}
-use Rattle.compiling.specs.declared.tasks.Expansion.TheVariants.{Zero, Two}
 use Rattle.compiling.proofs.Rights.{May, may_alloc, right_by}
 use Rattle.type_compiled.specs.Compiled.{annotation_at, no_annotation}
-
-pub alternatives_none : (rows : List Row) (t i n : ℕ) → n ≡ length (row rows t).alts → n ≤ i → Zero ≡ expand_alternatives rows t i
-alternatives_none rows t i n e l = ap (λ b. cond b (Two (Alternatives t (i + 1)) (Basic t i)) Zero) (sym (le-ltb i (length (row rows t).alts) (omega (arith, e))))
-
-pub stays : (ns : List Node) → take (length ns) ns ≡ ns
-stays ns = take_all (length ns) ns (omega arith)
 
 pub record Finished (c : Custom) (sh : Bool) (limit : ℕ) (rows : List Row) (t : ℕ) (ns ns' : List Node) (known known' : List Annotation) (n : ℕ) : Type 0 where
   pub made : alloc_ty_lem sh limit rows c.wild t ns known ≡ granted (entered ns' known' n)

@@ -1,6 +1,7 @@
 -- What is read of a table of types. Assumes nothing.
-use Rattle.std.proofs.Common.{◌≡◌, ℕ, zero, suc, ◌+◌, ◌-◌, ◌*◌, ◌<◌, ◌≤◌, Bool, true, false, cond, ltb, List, [], ◌∷◌, length, get_or, Some, None, Ok, Err, Option, Result, sym, refl, ap, ◌∙◌, subst, arith}
-use Rattle.std.proofs.lemmas.Bool.{lt-ltb, le-ltb}
+use Rattle.std.proofs.Common.{◌≡◌, ℕ, ◌+◌, ◌-◌, ◌*◌, ◌<◌, ◌≤◌, Bool, true, false, cond, ltb, List, length, get_or, Some, Ok, Err, Option, Result, sym, refl, ap, ◌∙◌, subst, inl, inr, arith}
+use Rattle.std.proofs.lemmas.Bool.{lt-ltb, le-ltb, ltb-true, ltb-false, cases_lt}
+use Rattle.std.proofs.lemmas.Option.{slice_get_within, get_or_from_slice_get, slice_get-get_or}
 use Rattle.std.specs.List.{slice_get, between}
 use Rattle.values.specs.declared.refusal.Refusal.{Refusal}
 use Rattle.values.specs.declared.refusal.Refusal.TheVariants.{NoType}
@@ -27,42 +28,41 @@ use Rattle.compiling.proofs.Unders.{alt_fine, elems_few}
 pub fine_of : (s : Types) → Fines (rows_of s)
 fine_of s = fines_of (rows_of s) (sound_of s)
 
-pub nth_some : (es : List ℕ) (j e : ℕ) → Some e ≡ slice_get es j → (j < length es) × (e ≡ get_or es j 0)
-nth_some [] j e h = let z : ◌≡◌ {A = ℕ} 0 1 = cc in absurd (omega arith)
-nth_some (x ∷ xs) zero e h = (omega arith, cc)
-nth_some (x ∷ xs) (suc j) e h = let r = nth_some xs j e h in (omega (arith, r.0), r.1)
-
-pub nth_none : (es : List ℕ) (j : ℕ) → None ≡ slice_get es j → length es ≤ j
-nth_none [] j h = omega arith
-nth_none (x ∷ xs) zero h = let z : ◌≡◌ {A = ℕ} 0 1 = cc in absurd (omega arith)
-nth_none (x ∷ xs) (suc j) h = omega (arith, nth_none xs j h)
-
 module _ (rows : List Row) (t i j : ℕ) where
-  pub elements_some : (e : ℕ) → Some e ≡ slice_get (elems (alt_at rows t i)) j → Two (Elements t i (j + 1)) (Ty e) ≡ expand_elements rows t i j
+  abbrev es : List ℕ
+  es = elems (alt_at rows t i)
+
+  is_by : (b : Bool) → ltb j (length es) ≡ b → expand_elements rows t i j ≡ cond b (Two (Elements t i (j + 1)) (Ty (get_or es j 0))) Zero
+  is_by b e = ap (λ c. cond c (Two (Elements t i (j + 1)) (Ty (get_or es j 0))) Zero) e
+
+  pub elements_some : (e : ℕ) → Some e ≡ slice_get es j → Two (Elements t i (j + 1)) (Ty e) ≡ expand_elements rows t i j
   elements_some e h =
-      let r = nth_some (elems (alt_at rows t i)) j e h in
-      ap (λ x. Two (Elements t i (j + 1)) (Ty x)) r.1
-      ∙ ap (λ b. cond b (Two (Elements t i (j + 1)) (Ty (get_or (elems (alt_at rows t i)) j 0))) Zero) (sym (lt-ltb j (length (elems (alt_at rows t i))) r.0))
+      sym (is_by true (lt-ltb j (length es) (slice_get_within es j e (sym h))) ∙ ap (λ x. Two (Elements t i (j + 1)) (Ty x)) (get_or_from_slice_get es j e 0 (sym h)))
 
-  pub elements_none : (o : Option ℕ) → o ≡ slice_get (elems (alt_at rows t i)) j → ((e : ℕ) → o ≡ Some e → ⊥) → Zero ≡ expand_elements rows t i j
-  elements_none (Some e) h n = absurd (n e refl)
-  elements_none None h n = ap (λ b. cond b (Two (Elements t i (j + 1)) (Ty (get_or (elems (alt_at rows t i)) j 0))) Zero) (sym (le-ltb j (length (elems (alt_at rows t i))) (nth_none (elems (alt_at rows t i)) j h)))
+  pub elements_none : (o : Option ℕ) → o ≡ slice_get es j → ((e : ℕ) → o ≡ Some e → ⊥) → Zero ≡ expand_elements rows t i j
+  elements_none o h n =
+      elim (cases_lt j (length es)) [ inl l ↦ absurd (n _ (h ∙ slice_get-get_or es j 0 l)) | inr l ↦ sym (is_by false (le-ltb j (length es) l)) ]
 
-  pub elements_low : Fines rows → t < length rows → i < length (row rows t).alts → (e : ℕ) → Some e ≡ slice_get (elems (alt_at rows t i)) j → j < 64
-  elements_low fine l m e h = omega (arith, (nth_some (elems (alt_at rows t i)) j e h).0, elems_few (alt_at rows t i) (alt_fine rows fine t i l m).2)
+  pub elements_low : Fines rows → t < length rows → i < length (row rows t).alts → (e : ℕ) → Some e ≡ slice_get es j → j < 64
+  elements_low fine l m e h = omega (arith, slice_get_within es j e (sym h), elems_few (alt_at rows t i) (alt_fine rows fine t i l m).2)
 
 pub room_of : (limit : ℕ) (rows : List Row) (ns : List Node) (t : ℕ) → valid limit ns ≡ true → 2 * (row rows t).heavy ≤ limit - used ns → used ns + 2 * (row rows t).heavy ≤ limit
 room_of limit rows ns t v r = omega (arith, valid_used limit ns v)
 
-pub root_same : (n m : ℕ) → n ∷ [] ≡ m ∷ [] → n ≡ m
-root_same n m e = cc
-
-pub says_is : (rows : List Row) (t : ℕ) (f : Row → ℕ) (n : ℕ) → Ok n ≡ type_says rows t f → n ≡ f (row rows t)
-says_is rows t f n h = by (ltb t (length rows)) h
+-- what an answer about a type says of it
+pub says_ok : (rows : List Row) (t : ℕ) (f : Row → ℕ) (n : ℕ) → Ok n ≡ type_says rows t f → (t < length rows) × (n ≡ f (row rows t))
+says_ok rows t f n h = by (ltb t (length rows)) refl h
   where
-    by : (b : Bool) → ◌≡◌ {A = Result ℕ Refusal} (Ok n) (cond b (Ok (f (row rows t))) (Err NoType)) → n ≡ f (row rows t)
-    by true e = cc
-    by false e = let z : ◌≡◌ {A = ℕ} 0 1 = cc in absurd (omega arith)
+    by : (b : Bool) → ltb t (length rows) ≡ b → ◌≡◌ {A = Result ℕ Refusal} (Ok n) (cond b (Ok (f (row rows t))) (Err NoType)) → (t < length rows) × (n ≡ f (row rows t))
+    by true q e = (ltb-true t (length rows) q, cc)
+    by false q e = absurd cc
+
+pub says_err : (rows : List Row) (t : ℕ) (f : Row → ℕ) (why : Refusal) → Err why ≡ type_says rows t f → (length rows ≤ t) × (why ≡ NoType)
+says_err rows t f why h = by (ltb t (length rows)) refl h
+  where
+    by : (b : Bool) → ltb t (length rows) ≡ b → ◌≡◌ {A = Result ℕ Refusal} (Err why) (cond b (Ok (f (row rows t))) (Err NoType)) → (length rows ≤ t) × (why ≡ NoType)
+    by true q e = absurd cc
+    by false q e = (ltb-false t (length rows) q, cc)
 
 module _ (pool : List ℕ) (a : Alt) (x : TyTuple) (from to : ℕ) (is : x ≡ Elems from to) (read : alt pool (Tuple x) ≡ a) (pool-ok : pooled (length pool) (Tuple x) ≡ true) where
   tuple_is : tuple (between from to pool) ≡ a

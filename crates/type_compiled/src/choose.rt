@@ -1,130 +1,30 @@
-// The nodes that the matchers' functions write.
+// The nodes that steps write.
 ghost use Rattle.std.specs.Prelude.{◌≡◌};
-ghost use Rattle.matcher.specs.Nodes.{node};
+ghost use Rattle.matcher.specs.Held.{meant};
 ghost use Rattle.compiling.specs.Code.{chosen, Can, Wrote, takes};
-ghost use Rattle.compiling.specs.Written.{is_any_kind_lem, wildcard, some_wildcard, every_wildcard};
-ghost use Rattle.compiling.specs.declared.tasks.Op.TheVariants.{ListOf, SetOf, DictOf, AnyOfTwo, AnyOf};
+ghost use Rattle.compiling.specs.Written.{wildcard, some_wildcard, every_wildcard};
 
 use compiling::tasks::Op;
 use matcher::alloc::TypeMatcherAlloc;
 use matcher::kind::Kind;
 use matcher::node::Node;
 
-fn is_any_kind(kind: Kind) -> bool
-    ensures { result ≡ is_any_kind_lem kind }
-{
-    match kind {
-        Kind::IsAny => true,
-        _ => false,
-    }
-}
-
 fn is_wildcard<S: TypeMatcherAlloc>(store: &S, k: usize) -> bool
-    ensures { result ≡ wildcard (S.TypeMatcherAlloc.nodes store.now) k }
+    ensures { result ≡ wildcard (S.nodes store.now) k }
 {
-    match store.kind(k) {
-        Ok(kind) => is_any_kind(kind),
-        Err(_) => false,
-    }
+    matches!(store.kind(k), Ok(Kind::IsAny))
 }
 
 fn every_is_wildcard<S: TypeMatcherAlloc>(store: &S, kids: &[usize]) -> bool
-    ensures { result ≡ every_wildcard (S.TypeMatcherAlloc.nodes store.now) kids.now }
+    ensures { result ≡ every_wildcard (S.nodes store.now) kids.now }
 {
-    for k in kids {
-        if !is_wildcard(store, *k) {
-            return false;
-        }
-    }
-    true
+    kids.iter().all(|k| is_wildcard(store, *k))
 }
 
 fn some_is_wildcard<S: TypeMatcherAlloc>(store: &S, kids: &[usize]) -> bool
-    ensures { result ≡ some_wildcard (S.TypeMatcherAlloc.nodes store.now) kids.now }
+    ensures { result ≡ some_wildcard (S.nodes store.now) kids.now }
 {
-    for k in kids {
-        if is_wildcard(store, *k) {
-            return true;
-        }
-    }
-    false
-}
-
-// Writes a node that can be written.
-fn write<S: TypeMatcherAlloc>(store: &mut S, kind: Kind, number: u16, kids: &[usize]) -> usize
-    requires { Can (S.TypeMatcherAlloc.limit store.old) (S.TypeMatcherAlloc.nodes store.old) (node kind number kids.now) }
-    ensures wrote { Wrote S.TypeMatcherAlloc.sharing (S.TypeMatcherAlloc.nodes store.old) (node kind number kids.now) result (S.TypeMatcherAlloc.nodes store.new) }
-    ensures limit { S.TypeMatcherAlloc.limit store.new ≡ S.TypeMatcherAlloc.limit store.old }
-{
-    match store.alloc(Node { kind, number, kids }) {
-        Ok(n) => n,
-        Err(_) => unreachable(),
-    }
-}
-
-// `list[Item]`.
-fn list_of_matcher<S: TypeMatcherAlloc>(store: &mut S, item: &[usize]) -> usize
-    requires { Can (S.TypeMatcherAlloc.limit store.old) (S.TypeMatcherAlloc.nodes store.old) (chosen ListOf (S.TypeMatcherAlloc.nodes store.old) item.now) }
-    ensures wrote { Wrote S.TypeMatcherAlloc.sharing (S.TypeMatcherAlloc.nodes store.old) (chosen ListOf (S.TypeMatcherAlloc.nodes store.old) item.now) result (S.TypeMatcherAlloc.nodes store.new) }
-    ensures limit { S.TypeMatcherAlloc.limit store.new ≡ S.TypeMatcherAlloc.limit store.old }
-{
-    if every_is_wildcard(store, item) {
-        write(store, Kind::IsList, 0, &[])
-    } else {
-        write(store, Kind::IsListOf, 0, item)
-    }
-}
-
-// `set[Item]`.
-fn set_of_matcher<S: TypeMatcherAlloc>(store: &mut S, item: &[usize]) -> usize
-    requires { Can (S.TypeMatcherAlloc.limit store.old) (S.TypeMatcherAlloc.nodes store.old) (chosen SetOf (S.TypeMatcherAlloc.nodes store.old) item.now) }
-    ensures wrote { Wrote S.TypeMatcherAlloc.sharing (S.TypeMatcherAlloc.nodes store.old) (chosen SetOf (S.TypeMatcherAlloc.nodes store.old) item.now) result (S.TypeMatcherAlloc.nodes store.new) }
-    ensures limit { S.TypeMatcherAlloc.limit store.new ≡ S.TypeMatcherAlloc.limit store.old }
-{
-    if every_is_wildcard(store, item) {
-        write(store, Kind::IsSet, 0, &[])
-    } else {
-        write(store, Kind::IsSetOf, 0, item)
-    }
-}
-
-// `dict[Key, Value]`: a lone wildcard stays as its kid.
-fn dict_of_matcher<S: TypeMatcherAlloc>(store: &mut S, sides: &[usize]) -> usize
-    requires { Can (S.TypeMatcherAlloc.limit store.old) (S.TypeMatcherAlloc.nodes store.old) (chosen DictOf (S.TypeMatcherAlloc.nodes store.old) sides.now) }
-    ensures wrote { Wrote S.TypeMatcherAlloc.sharing (S.TypeMatcherAlloc.nodes store.old) (chosen DictOf (S.TypeMatcherAlloc.nodes store.old) sides.now) result (S.TypeMatcherAlloc.nodes store.new) }
-    ensures limit { S.TypeMatcherAlloc.limit store.new ≡ S.TypeMatcherAlloc.limit store.old }
-{
-    if every_is_wildcard(store, sides) {
-        write(store, Kind::IsDict, 0, &[])
-    } else {
-        write(store, Kind::IsDictOf, 0, sides)
-    }
-}
-
-// `A | B`: a wildcard side makes it a wildcard.
-fn any_of_two_matcher<S: TypeMatcherAlloc>(store: &mut S, sides: &[usize]) -> usize
-    requires { Can (S.TypeMatcherAlloc.limit store.old) (S.TypeMatcherAlloc.nodes store.old) (chosen AnyOfTwo (S.TypeMatcherAlloc.nodes store.old) sides.now) }
-    ensures wrote { Wrote S.TypeMatcherAlloc.sharing (S.TypeMatcherAlloc.nodes store.old) (chosen AnyOfTwo (S.TypeMatcherAlloc.nodes store.old) sides.now) result (S.TypeMatcherAlloc.nodes store.new) }
-    ensures limit { S.TypeMatcherAlloc.limit store.new ≡ S.TypeMatcherAlloc.limit store.old }
-{
-    if some_is_wildcard(store, sides) {
-        write(store, Kind::IsAny, 0, &[])
-    } else {
-        write(store, Kind::IsAnyOfTwo, 0, sides)
-    }
-}
-
-// A union of three or more.
-fn any_of_matcher<S: TypeMatcherAlloc>(store: &mut S, alternatives: &[usize]) -> usize
-    requires { Can (S.TypeMatcherAlloc.limit store.old) (S.TypeMatcherAlloc.nodes store.old) (chosen (AnyOf 0) (S.TypeMatcherAlloc.nodes store.old) alternatives.now) }
-    ensures wrote { Wrote S.TypeMatcherAlloc.sharing (S.TypeMatcherAlloc.nodes store.old) (chosen (AnyOf 0) (S.TypeMatcherAlloc.nodes store.old) alternatives.now) result (S.TypeMatcherAlloc.nodes store.new) }
-    ensures limit { S.TypeMatcherAlloc.limit store.new ≡ S.TypeMatcherAlloc.limit store.old }
-{
-    if some_is_wildcard(store, alternatives) {
-        write(store, Kind::IsAny, 0, &[])
-    } else {
-        write(store, Kind::IsAnyOf, 0, alternatives)
-    }
+    kids.iter().any(|k| is_wildcard(store, *k))
 }
 
 // How many results a step takes.
@@ -132,27 +32,46 @@ pub(crate) fn takes(op: Op) -> usize
     ensures { result ≡ takes op }
 {
     match op {
-        Op::Write(_, _, n) => n,
-        Op::ListOf => 1,
-        Op::SetOf => 1,
-        Op::DictOf => 2,
-        Op::AnyOfTwo => 2,
-        Op::AnyOf(n) => n,
+        Op::Write(_, _, n) | Op::AnyOf(n) => n,
+        Op::ListOf | Op::SetOf => 1,
+        Op::DictOf | Op::AnyOfTwo => 2,
     }
 }
 
-// Writes the node of a step over its kids.
-pub(crate) fn write_op<S: TypeMatcherAlloc>(store: &mut S, op: Op, kids: &[usize]) -> usize
-    requires { Can (S.TypeMatcherAlloc.limit store.old) (S.TypeMatcherAlloc.nodes store.old) (chosen op (S.TypeMatcherAlloc.nodes store.old) kids.now) }
-    ensures wrote { Wrote S.TypeMatcherAlloc.sharing (S.TypeMatcherAlloc.nodes store.old) (chosen op (S.TypeMatcherAlloc.nodes store.old) kids.now) result (S.TypeMatcherAlloc.nodes store.new) }
-    ensures limit { S.TypeMatcherAlloc.limit store.new ≡ S.TypeMatcherAlloc.limit store.old }
+// The node of a step over its kids. A list, a set or a dict of wildcards is one of anything, and a dict keeps a
+// lone wildcard; a union with a wildcard side is a wildcard.
+fn chosen<'a, S: TypeMatcherAlloc>(store: &S, op: Op, kids: &'a [usize]) -> Node<'a>
+    ensures { meant result ≡ chosen op (S.nodes store.now) kids.now }
 {
-    match op {
-        Op::Write(kind, number, _) => write(store, kind, number, kids),
-        Op::ListOf => list_of_matcher(store, kids),
-        Op::SetOf => set_of_matcher(store, kids),
-        Op::DictOf => dict_of_matcher(store, kids),
-        Op::AnyOfTwo => any_of_two_matcher(store, kids),
-        Op::AnyOf(_) => any_of_matcher(store, kids),
+    let (is_open, bare, over) = match op {
+        Op::Write(kind, number, _) => return Node { kind, number, kids },
+        Op::ListOf => (every_is_wildcard(store, kids), Kind::IsList, Kind::IsListOf),
+        Op::SetOf => (every_is_wildcard(store, kids), Kind::IsSet, Kind::IsSetOf),
+        Op::DictOf => (every_is_wildcard(store, kids), Kind::IsDict, Kind::IsDictOf),
+        Op::AnyOfTwo => (some_is_wildcard(store, kids), Kind::IsAny, Kind::IsAnyOfTwo),
+        Op::AnyOf(_) => (some_is_wildcard(store, kids), Kind::IsAny, Kind::IsAnyOf),
+    };
+    if is_open {
+        Node {
+            kind: bare,
+            number: 0,
+            kids: &[],
+        }
+    } else {
+        Node {
+            kind: over,
+            number: 0,
+            kids,
+        }
     }
+}
+
+// Writes the node of a step over its kids, where it can be written.
+pub(crate) fn write_op<S: TypeMatcherAlloc>(store: &mut S, op: Op, kids: &[usize]) -> usize
+    requires { Can (S.limit store.old) (S.nodes store.old) (chosen op (S.nodes store.old) kids.now) }
+    ensures wrote { Wrote S.sharing (S.nodes store.old) (chosen op (S.nodes store.old) kids.now) result (S.nodes store.new) }
+    ensures limit { S.limit store.new ≡ S.limit store.old }
+{
+    let node = chosen(store, op, kids);
+    store.alloc(node).unwrap()
 }

@@ -30,24 +30,24 @@ impl Annotations {
         self.list.len()
     }
 
+    fn entry(&self, a: TypeCompiled) -> Result<Annotation, Refusal>
+        ensures { result ≡ annotation_says (annotations_of self.now) a.0 (λ x. x) }
+    {
+        self.list.get(a.0).copied().ok_or(Refusal::NoNode)
+    }
+
     // The type of an annotation.
     pub fn ty(&self, a: TypeCompiled) -> Result<usize, Refusal>
         ensures { result ≡ annotation_says (annotations_of self.now) a.0 (λ x. x.ty) }
     {
-        if a.0 < self.count() {
-            return Ok(self.list[a.0].ty);
-        }
-        Err(Refusal::NoNode)
+        self.entry(a).map(|x| x.ty)
     }
 
     // The root of an annotation's nodes.
     pub fn root(&self, a: TypeCompiled) -> Result<usize, Refusal>
         ensures { result ≡ annotation_says (annotations_of self.now) a.0 (λ x. x.root) }
     {
-        if a.0 < self.count() {
-            return Ok(self.list[a.0].root);
-        }
-        Err(Refusal::NoNode)
+        self.entry(a).map(|x| x.root)
     }
 
     // Whether there are as many as there may be.

@@ -1,39 +1,56 @@
 // What a task is expanded to: the kids' tasks, and the step that joins them. Named as starlark's own functions.
-ghost use Rattle.std.specs.Prelude.{◌≡◌, ℕ, ◌<◌, Bool, true, List, length, if◌then◌else◌};
-ghost use Rattle.matcher.specs.declared.kind.Kind.TheVariants.{IsAny, Custom as CustomKind};
+ghost use Rattle.std.specs.Prelude.{◌≡◌, ℕ, ◌<◌, List, length};
 ghost use Rattle.membership.specs.Rows.{row};
 ghost use Rattle.membership.specs.Readings.{alt_at, elems, plain_of};
-ghost use Rattle.typing.specs.Held.{rows_of, pool_of};
-ghost use Rattle.typing.specs.View.{alt, pooled};
-ghost use Rattle.typing.specs.declared.basic.TyBasic.TheVariants.{Tuple};
+ghost use Rattle.typing.specs.View.{alt};
 ghost use Rattle.compiling.specs.Written.{is_none};
-ghost use Rattle.compiling.specs.Code.{value_op, item_op, beside_none_op, leaf as leaf_op};
-ghost use Rattle.compiling.specs.Tasks.{expand, expand_union, expand_two, expand_none_or, expand_basic, expand_list, expand_set, expand_dict, elems_by, expand_pair, expand_tuple_of, expand_alternatives, expand_elements, item_task, each_task, leaf_task, Fine};
-ghost use Rattle.compiling.specs.declared.tasks.Op.TheVariants.{Write};
+ghost use Rattle.typing.specs.Held.{rows_of};
+ghost use Rattle.compiling.specs.Code.{leaf, type_id, value_op, item_op, beside_none_op, custom_op};
+ghost use Rattle.compiling.specs.Tasks.{expand, expand_union, expand_two, expand_none_or, expand_basic, expand_over, expand_dict, elems_by, expand_pair, expand_alternatives, expand_elements, part_task, Fine};
+ghost use Rattle.matcher.specs.declared.kind.Kind.TheVariants.{IsList, IsSet, IsTupleOf};
+ghost use Rattle.compiling.specs.declared.tasks.Op.{Op};
+ghost use Rattle.compiling.specs.declared.tasks.Op.TheVariants.{Write, ListOf, SetOf};
+ghost use Rattle.compiling.specs.declared.tasks.Task.TheVariants.{Step};
+ghost use Rattle.compiling.specs.declared.tasks.Expansion.TheVariants.{One};
 
-use crate::reads::{basic_of, element_at, width_of};
+use crate::compiler::Compiler;
 use compiling::tasks::{Expansion, Op, Task};
 use custom::ty_custom::TyCustom;
 use matcher::kind::Kind;
 use typing::basic::{TyBasic, TyTuple};
 use typing::types::Types;
+use values::built_in::BuiltIn;
 
-fn leaf(kind: Kind) -> Task
-    ensures { result ≡ leaf_task kind }
+fn leaf(kind: Kind) -> Op
+    ensures { result ≡ leaf kind }
 {
-    Task::Step(Op::Write(kind, 0, 0))
+    Op::Write(kind, 0, 0)
+}
+
+// A plain type by its number.
+fn type_id(ty: u16) -> Op
+    ensures { result ≡ type_id ty }
+{
+    Op::Write(Kind::StarlarkTypeIdMatcher, ty, 0)
+}
+
+// One step.
+fn one(op: Op) -> Expansion
+    ensures { result ≡ One (Step op) }
+{
+    Expansion::One(Task::Step(op))
 }
 
 // A plain type by itself.
 fn starlark_value(ty: u16) -> Op
     ensures { result ≡ value_op ty }
 {
-    match ty {
-        1 => Op::Write(Kind::IsInt, 0, 0),
-        2 => Op::Write(Kind::IsBool, 0, 0),
-        3 => Op::Write(Kind::IsNone, 0, 0),
-        4 => Op::Write(Kind::IsStr, 0, 0),
-        _ => Op::Write(Kind::StarlarkTypeIdMatcher, ty, 0),
+    match BuiltIn::try_from(ty) {
+        Ok(BuiltIn::Int) => leaf(Kind::IsInt),
+        Ok(BuiltIn::Bool) => leaf(Kind::IsBool),
+        Ok(BuiltIn::NoneType) => leaf(Kind::IsNone),
+        Ok(BuiltIn::Str) => leaf(Kind::IsStr),
+        _ => type_id(ty),
     }
 }
 
@@ -41,10 +58,9 @@ fn starlark_value(ty: u16) -> Op
 fn item_starlark_value(ty: u16) -> Op
     ensures { result ≡ item_op ty }
 {
-    if ty == 4 {
-        Op::Write(Kind::IsStr, 0, 0)
-    } else {
-        Op::Write(Kind::StarlarkTypeIdMatcher, ty, 0)
+    match BuiltIn::try_from(ty) {
+        Ok(BuiltIn::Str) => leaf(Kind::IsStr),
+        _ => type_id(ty),
     }
 }
 
@@ -52,89 +68,74 @@ fn item_starlark_value(ty: u16) -> Op
 fn none_or_starlark_value(ty: u16) -> Op
     ensures { result ≡ beside_none_op ty }
 {
-    if ty == 4 {
-        Op::Write(Kind::IsStr, 0, 0)
-    } else if ty == 1 {
-        Op::Write(Kind::IsInt, 0, 0)
-    } else {
-        Op::Write(Kind::StarlarkTypeIdMatcher, ty, 0)
+    match BuiltIn::try_from(ty) {
+        Ok(BuiltIn::Int) => leaf(Kind::IsInt),
+        Ok(BuiltIn::Str) => leaf(Kind::IsStr),
+        _ => type_id(ty),
     }
 }
 
-// An item or a key: the plain type, or the general matcher.
-fn item_of(types: &Types, t: usize) -> Task
-    requires { t < length (rows_of types.now) }
-    ensures { result ≡ item_task t (plain_of (row (rows_of types.now) t).alts) }
+// A part: its plain type, or the general matcher.
+fn part<F: FnOnce(u16) -> Op>(types: &Types, t: usize, plain: F) -> Task
+    ghost op: { ℕ → Op }
+    requires callable { F.IsAlwaysCallable plain }
+    requires plain { (n : ℕ) (o : Op) → F.post plain n o → o ≡ op n }
+    ensures { result ≡ part_task op t (plain_of (row (rows_of types.now) t).alts) }
 {
     let Some(ty) = types.is_starlark_value(t) else {
         return Task::Ty(t);
     };
-    Task::Step(item_starlark_value(ty))
+    Task::Step(plain(ty))
 }
 
-// A tuple's element: the plain type, or the general matcher.
-fn element_of(types: &Types, t: usize) -> Task
-    requires { t < length (rows_of types.now) }
-    ensures { result ≡ each_task t (plain_of (row (rows_of types.now) t).alts) }
+// A type over one part: one step where the part is anything.
+fn over<F: FnOnce(u16) -> Op>(types: &Types, whole: Op, join: Op, t: usize, plain: F) -> Expansion
+    ghost op: { ℕ → Op }
+    requires callable { F.IsAlwaysCallable plain }
+    requires plain { (n : ℕ) (o : Op) → F.post plain n o → o ≡ op n }
+    ensures { result ≡ expand_over whole join op (rows_of types.now) t }
 {
-    let Some(ty) = types.is_starlark_value(t) else {
-        return Task::Ty(t);
-    };
-    Task::Step(Op::Write(Kind::StarlarkTypeIdMatcher, ty, 0))
+    if types.is_any(t) {
+        one(whole)
+    } else {
+        Expansion::Two(Task::Step(join), part(types, t, plain))
+    }
 }
 
 fn list_of(types: &Types, item: usize) -> Expansion
-    requires { item < length (rows_of types.now) }
-    ensures { result ≡ expand_list (rows_of types.now) item }
+    ensures { result ≡ expand_over (leaf IsList) ListOf item_op (rows_of types.now) item }
 {
-    if types.is_any(item) {
-        Expansion::One(leaf(Kind::IsList))
-    } else {
-        Expansion::Two(Task::Step(Op::ListOf), item_of(types, item))
-    }
+    let whole = leaf(Kind::IsList);
+    over(types, whole, Op::ListOf, item, item_starlark_value)
 }
 
 fn set_of(types: &Types, item: usize) -> Expansion
-    requires { item < length (rows_of types.now) }
-    ensures { result ≡ expand_set (rows_of types.now) item }
+    ensures { result ≡ expand_over (leaf IsSet) SetOf item_op (rows_of types.now) item }
 {
-    if types.is_any(item) {
-        Expansion::One(leaf(Kind::IsSet))
-    } else {
-        Expansion::Two(Task::Step(Op::SetOf), item_of(types, item))
-    }
+    let whole = leaf(Kind::IsSet);
+    over(types, whole, Op::SetOf, item, item_starlark_value)
 }
 
 fn dict_of(types: &Types, k: usize, v: usize) -> Expansion
-    requires key { k < length (rows_of types.now) }
-    requires value { v < length (rows_of types.now) }
     ensures { result ≡ expand_dict (rows_of types.now) k v }
 {
-    if types.is_any(k) & types.is_any(v) {
-        Expansion::One(leaf(Kind::IsDict))
+    if types.is_any(k) && types.is_any(v) {
+        one(leaf(Kind::IsDict))
     } else {
-        Expansion::Three(Task::Step(Op::DictOf), Task::Ty(v), item_of(types, k))
+        let join = Task::Step(Op::DictOf);
+        Expansion::Three(join, Task::Ty(v), part(types, k, item_starlark_value))
     }
 }
 
 fn tuple_of(types: &Types, item: usize) -> Expansion
-    requires { item < length (rows_of types.now) }
-    ensures { result ≡ expand_tuple_of (rows_of types.now) item }
+    ensures { result ≡ expand_over (type_id 8) (Write IsTupleOf 0 1) type_id (rows_of types.now) item }
 {
-    if types.is_any(item) {
-        Expansion::One(Task::Step(Op::Write(Kind::StarlarkTypeIdMatcher, 8, 0)))
-    } else {
-        Expansion::Two(
-            Task::Step(Op::Write(Kind::IsTupleOf, 0, 1)),
-            element_of(types, item),
-        )
-    }
+    let join = Op::Write(Kind::IsTupleOf, 0, 1);
+    over(types, type_id(BuiltIn::Tuple.into()), join, item, type_id)
 }
 
 // Two elements: both plain types, or the general matcher for both.
 fn tuple_elems2(types: &Types, x: usize, y: usize) -> Expansion
-    requires first { x < length (rows_of types.now) }
-    requires second { y < length (rows_of types.now) }
     ensures { result ≡ expand_pair x y (plain_of (row (rows_of types.now) x).alts) (plain_of (row (rows_of types.now) y).alts) }
 {
     let join = Task::Step(Op::Write(Kind::IsTupleElems2, 0, 2));
@@ -145,29 +146,23 @@ fn tuple_elems2(types: &Types, x: usize, y: usize) -> Expansion
     let Some(b) = types.is_starlark_value(y) else {
         return general;
     };
-    Expansion::Three(
-        join,
-        Task::Step(Op::Write(Kind::StarlarkTypeIdMatcher, b, 0)),
-        Task::Step(Op::Write(Kind::StarlarkTypeIdMatcher, a, 0)),
-    )
+    Expansion::Three(join, Task::Step(type_id(b)), Task::Step(type_id(a)))
 }
 
 fn tuple_elems(types: &Types, t: usize, i: usize, count: usize) -> Expansion
-    requires stands { t < length (rows_of types.now) }
-    requires within { i < length (row (rows_of types.now) t).alts }
-    requires many { count ≡ length (elems (alt_at (rows_of types.now) t i)) }
+    requires { count ≡ length (elems (alt_at (rows_of types.now) t i)) }
     ensures { result ≡ elems_by (rows_of types.now) t i (elems (alt_at (rows_of types.now) t i)) count }
 {
     match count {
-        0 => Expansion::One(leaf(Kind::IsTupleElems0)),
+        0 => one(leaf(Kind::IsTupleElems0)),
         1 => Expansion::Two(
             Task::Step(Op::Write(Kind::IsTupleElems1, 0, 1)),
-            Task::Ty(element_at(types, t, i, 0)),
+            Task::Ty(types.element(t, i, 0).unwrap()),
         ),
         2 => tuple_elems2(
             types,
-            element_at(types, t, i, 0),
-            element_at(types, t, i, 1),
+            types.element(t, i, 0).unwrap(),
+            types.element(t, i, 1).unwrap(),
         ),
         _ => Expansion::Two(
             Task::Step(Op::Write(Kind::IsTupleElems, 0, count)),
@@ -176,70 +171,56 @@ fn tuple_elems(types: &Types, t: usize, i: usize, count: usize) -> Expansion
     }
 }
 
-fn tuple_matcher(types: &Types, t: usize, i: usize, tuple: TyTuple) -> Expansion
-    requires stands { t < length (rows_of types.now) }
-    requires within { i < length (row (rows_of types.now) t).alts }
-    requires read { alt (pool_of types.now) (Tuple tuple) ≡ alt_at (rows_of types.now) t i }
-    requires pooled { pooled (length (pool_of types.now)) (Tuple tuple) ≡ true }
-    ensures { (w : ℕ → Bool) → result ≡ expand_basic (rows_of types.now) w t i (alt_at (rows_of types.now) t i) }
-{
-    match tuple {
-        TyTuple::Elems(from, to) => tuple_elems(types, t, i, to - from),
-        TyTuple::Of(item) => tuple_of(types, item),
-    }
-}
-
 fn custom_matcher<C: TyCustom>(customs: &C, number: u16) -> Op
-    ensures { result ≡ (if (C.TyCustom.custom customs.now).wild number then leaf_op IsAny else Write CustomKind number 0) }
+    ensures { result ≡ custom_op (C.custom customs.now).wild number }
 {
     if customs.is_wildcard(number) {
-        Op::Write(Kind::IsAny, 0, 0)
+        leaf(Kind::IsAny)
     } else {
         Op::Write(Kind::Custom, number, 0)
     }
 }
 
-fn ty_basic<C: TyCustom>(types: &Types, customs: &C, t: usize, i: usize) -> Expansion
-    requires stands { t < length (rows_of types.now) }
-    requires within { i < length (row (rows_of types.now) t).alts }
-    ensures { result ≡ expand_basic (rows_of types.now) (C.TyCustom.custom customs.now).wild t i (alt_at (rows_of types.now) t i) }
-{
-    match basic_of(types, t, i) {
-        TyBasic::Any => Expansion::One(leaf(Kind::IsAny)),
-        TyBasic::StarlarkValue(ty) => Expansion::One(Task::Step(starlark_value(ty))),
-        TyBasic::Iter(_) => Expansion::One(leaf(Kind::IsIterable)),
-        TyBasic::Callable => Expansion::One(leaf(Kind::IsCallable)),
-        TyBasic::Type => Expansion::One(leaf(Kind::IsType)),
-        TyBasic::List(item) => list_of(types, item),
-        TyBasic::Tuple(tuple) => tuple_matcher(types, t, i, tuple),
-        TyBasic::Dict(k, v) => dict_of(types, k, v),
-        TyBasic::Custom(number) => Expansion::One(Task::Step(custom_matcher(customs, number))),
-        TyBasic::Set(item) => set_of(types, item),
+impl<C: TyCustom> Compiler<'_, C> {
+    fn ty_basic(&self, t: usize, i: usize) -> Expansion
+        requires { i < length (row (rows_of self.now.types.now) t).alts }
+        ensures { result ≡ expand_basic (rows_of self.now.types.now) (C.custom self.now.customs.now).wild t i (alt_at (rows_of self.now.types.now) t i) }
+    {
+        match self.types.basic(t, i).unwrap() {
+            TyBasic::Any => one(leaf(Kind::IsAny)),
+            TyBasic::StarlarkValue(ty) => one(starlark_value(ty)),
+            TyBasic::Iter(_) => one(leaf(Kind::IsIterable)),
+            TyBasic::Callable => one(leaf(Kind::IsCallable)),
+            TyBasic::Type => one(leaf(Kind::IsType)),
+            TyBasic::List(item) => list_of(self.types, item),
+            TyBasic::Tuple(TyTuple::Elems(from, to)) => tuple_elems(self.types, t, i, to - from),
+            TyBasic::Tuple(TyTuple::Of(item)) => tuple_of(self.types, item),
+            TyBasic::Dict(k, v) => dict_of(self.types, k, v),
+            TyBasic::Custom(number) => one(custom_matcher(self.customs, number)),
+            TyBasic::Set(item) => set_of(self.types, item),
+        }
     }
 }
 
 fn is_none(ty: TyBasic) -> bool
     ensures { (pool : List ℕ) → result ≡ is_none (alt pool ty) }
 {
-    match ty {
-        TyBasic::StarlarkValue(ty) => ty == 3,
-        _ => false,
-    }
+    matches!(ty, TyBasic::StarlarkValue(n) if n == BuiltIn::NoneType.into())
 }
 
 // `A | None`.
 fn none_or_basic(t: usize, i: usize, ty: TyBasic) -> Expansion
     ensures { (pool : List ℕ) → result ≡ expand_none_or t i (alt pool ty) }
 {
-    let join = Task::Step(Op::Write(Kind::IsAnyOfTwo, 0, 2));
-    match ty {
-        TyBasic::StarlarkValue(ty) => Expansion::Three(
-            join,
-            Task::Step(none_or_starlark_value(ty)),
-            leaf(Kind::IsNone),
-        ),
-        _ => Expansion::Three(join, Task::Basic(t, i), leaf(Kind::IsNone)),
-    }
+    let beside = match ty {
+        TyBasic::StarlarkValue(ty) => Task::Step(none_or_starlark_value(ty)),
+        _ => Task::Basic(t, i),
+    };
+    Expansion::Three(
+        Task::Step(Op::Write(Kind::IsAnyOfTwo, 0, 2)),
+        beside,
+        Task::Step(leaf(Kind::IsNone)),
+    )
 }
 
 // `A | B`.
@@ -258,14 +239,13 @@ fn any_of_two_basic(t: usize, a: TyBasic, b: TyBasic) -> Expansion
 
 // A union of so many alternatives.
 fn union_matcher(types: &Types, t: usize, count: usize) -> Expansion
-    requires stands { t < length (rows_of types.now) }
-    requires many { count ≡ length (row (rows_of types.now) t).alts }
+    requires { count ≡ length (row (rows_of types.now) t).alts }
     ensures { result ≡ expand_union (rows_of types.now) t count }
 {
     match count {
-        0 => Expansion::One(leaf(Kind::IsNever)),
+        0 => one(leaf(Kind::IsNever)),
         1 => Expansion::One(Task::Basic(t, 0)),
-        2 => any_of_two_basic(t, basic_of(types, t, 0), basic_of(types, t, 1)),
+        2 => any_of_two_basic(t, types.basic(t, 0).unwrap(), types.basic(t, 1).unwrap()),
         _ => Expansion::Two(Task::Step(Op::AnyOf(count)), Task::Alternatives(t, 0)),
     }
 }
@@ -274,14 +254,14 @@ fn ty(types: &Types, t: usize) -> Expansion
     requires { t < length (rows_of types.now) }
     ensures { result ≡ expand_union (rows_of types.now) t (length (row (rows_of types.now) t).alts) }
 {
-    union_matcher(types, t, width_of(types, t))
+    union_matcher(types, t, types.width(t).unwrap())
 }
 
 fn alternatives(types: &Types, t: usize, i: usize) -> Expansion
     requires { t < length (rows_of types.now) }
     ensures { result ≡ expand_alternatives (rows_of types.now) t i }
 {
-    if i < width_of(types, t) {
+    if i < types.width(t).unwrap() {
         Expansion::Two(Task::Alternatives(t, i + 1), Task::Basic(t, i))
     } else {
         Expansion::Zero
@@ -299,15 +279,18 @@ fn elements_from(types: &Types, t: usize, i: usize, j: usize) -> Expansion
     Expansion::Two(Task::Elements(t, i, j + 1), Task::Ty(element))
 }
 
-pub(crate) fn expanded<C: TyCustom>(types: &Types, customs: &C, task: Task) -> Expansion
-    requires { Fine (rows_of types.now) task }
-    ensures { result ≡ expand (rows_of types.now) (C.TyCustom.custom customs.now).wild task }
-{
-    match task {
-        Task::Ty(t) => ty(types, t),
-        Task::Basic(t, i) => ty_basic(types, customs, t, i),
-        Task::Alternatives(t, i) => alternatives(types, t, i),
-        Task::Elements(t, i, j) => elements_from(types, t, i, j),
-        Task::Step(_) => Expansion::Zero,
+impl<C: TyCustom> Compiler<'_, C> {
+    #[tactic(auto, unfolding(compiling::specs::Tasks::expand))]
+    pub(crate) fn expanded(&self, task: Task) -> Expansion
+        requires { Fine (rows_of self.now.types.now) task }
+        ensures { result ≡ expand (rows_of self.now.types.now) (C.custom self.now.customs.now).wild task }
+    {
+        match task {
+            Task::Ty(t) => ty(self.types, t),
+            Task::Basic(t, i) => self.ty_basic(t, i),
+            Task::Alternatives(t, i) => alternatives(self.types, t, i),
+            Task::Elements(t, i, j) => elements_from(self.types, t, i, j),
+            Task::Step(_) => Expansion::Zero,
+        }
     }
 }

@@ -4,9 +4,9 @@
 pub mod annotations;
 mod choose;
 pub mod compile;
+mod compiler;
 pub mod entries;
 mod expand;
 pub mod factory;
-mod reads;
 pub mod scratch;
 mod steps;

@@ -1,4 +1,4 @@
-ghost use Rattle.std.specs.Prelude.{◌≡◌, ◌+◌, ◌<◌, ◌≤◌, [], ◌∷◌, ◌++◌, vec_len, vec_capacity, MatchOption};
+ghost use Rattle.std.specs.Prelude.{◌≡◌, ◌+◌, ◌≤◌, [], ◌∷◌, ◌++◌, vec_len, vec_capacity};
 ghost use Rattle.compiling.specs.Limits.{most_tasks, most_results};
 ghost use Rattle.compiling.specs.Tasks.{listed};
 ghost use Rattle.compiling.specs.declared.tasks.Task.TheVariants.{Ty};
@@ -27,15 +27,6 @@ impl Scratch {
         Ok(Scratch { tasks, results })
     }
 
-    fn push(&mut self, task: Task)
-        requires { vec_len self.old.tasks < most_tasks }
-        ensures tasks { self.new.tasks.items ≡ self.old.tasks.items ++ task ∷ [] }
-        ensures len { vec_len self.new.tasks ≡ vec_len self.old.tasks + 1 }
-        ensures results { self.new.results.items ≡ self.old.results.items }
-    {
-        self.tasks.push_reserved(task);
-    }
-
     pub(crate) fn push_all(&mut self, tasks: Expansion)
         requires { vec_len self.old.tasks + 3 ≤ most_tasks }
         ensures tasks { self.new.tasks.items ≡ self.old.tasks.items ++ listed tasks }
@@ -43,32 +34,25 @@ impl Scratch {
     {
         match tasks {
             Expansion::Zero => {}
-            Expansion::One(a) => self.push(a),
+            Expansion::One(a) => self.tasks.push_reserved(a),
             Expansion::Two(a, b) => {
-                self.push(a);
-                self.push(b);
+                self.tasks.push_reserved(a);
+                self.tasks.push_reserved(b);
             }
             Expansion::Three(a, b, c) => {
-                self.push(a);
-                self.push(b);
-                self.push(c);
+                self.tasks.push_reserved(a);
+                self.tasks.push_reserved(b);
+                self.tasks.push_reserved(c);
             }
         }
-    }
-
-    pub(crate) fn pop(&mut self) -> Option<Task>
-        ensures tasks { MatchOption result ((self.old.tasks.items ≡ []) × (self.new.tasks.items ≡ [])) (λ x. self.old.tasks.items ≡ self.new.tasks.items ++ x ∷ []) }
-        ensures results { self.new.results.items ≡ self.old.results.items }
-    {
-        self.tasks.pop()
     }
 
     pub(crate) fn start(&mut self, t: usize)
         ensures tasks { self.new.tasks.items ≡ Ty t ∷ [] }
         ensures results { self.new.results.items ≡ [] }
     {
-        self.tasks.truncate(0);
-        self.results.truncate(0);
+        self.tasks.clear();
+        self.results.clear();
         self.tasks.push_reserved(Task::Ty(t));
     }
 }

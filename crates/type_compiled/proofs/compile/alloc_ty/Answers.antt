@@ -1,5 +1,6 @@
 use Rattle.std.proofs.Common.{◌-◌, ◌*◌, ◌<◌, ◌≤◌, length, sym, refl, ◌∙◌, arith}
 use Rattle.std.proofs.lemmas.Bool.{leb-true, leb-false}
+use Rattle.std.proofs.lemmas.Result.{err_from_is_err_and}
 use Rattle.matcher.specs.Nodes.{used}
 use Rattle.membership.specs.Rows.{row}
 use Rattle.typing.specs.Held.{rows_of}
@@ -7,49 +8,34 @@ use Rattle.typing.proofs.Reading.{sound_of}
 use Rattle.compiling.specs.Limits.{most_annotations}
 use Rattle.compiling.proofs.Rights.{May, no_type, no_place, no_room}
 use Rattle.type_compiled.specs.Compiled.{annotations_of}
-use Rattle.type_compiled.proofs.Finish.{stays, finish}
+use Rattle.type_compiled.proofs.Finish.{finish}
+use Rattle.type_compiled.proofs.Sures.{says_ok, says_err}
 use Rattle.type_compiled.proofs.compile.alloc_ty.Goals as goal
+use Rattle.type_compiled.proofs.compile.alloc_ty.Goals.{then-is_full-via-then-is_full, then-is_full-via-else-is_full+then-free-weight}
 
-pub returns-then-t-count : goal.returns-then-t-count
-returns-then-t-count g c =
+pub returns-in_err-weight-clause-made : goal.returns-in_err-weight-clause-made
+returns-in_err-weight-clause-made g c =
     let rows = rows_of c.args.types.now in
     let store = c.args.store.now in
-    let l : length rows ≤ c.args.factory.ty = omega (arith, c.if-t-count.true, c.count.ensures) in
-    record {
-      made = (no_type g.S.TypeMatcherAlloc.sharing (g.S.TypeMatcherAlloc.limit store) rows (g.C.TyCustom.custom c.args.customs.now).wild c.args.factory.ty (g.S.TypeMatcherAlloc.nodes store) (annotations_of c.args.annotations.now) l, refl, refl);
-      means = tt;
-      stand = stays (g.S.TypeMatcherAlloc.nodes store);
-      limit = refl;
-    }
+    let no = says_err rows c.args.factory.ty (λ w. w.heavy) _ c.in_err-weight.ensures.held in
+    let out = err_from_is_err_and c.from_residual.result c.from_residual.ensures.1 in
+    rw (out.1, out.2, no.1) (no_type g.S.TypeMatcherAlloc.sharing (g.S.TypeMatcherAlloc.limit store) rows (g.C.TyCustom.custom c.args.customs.now).wild c.args.factory.ty (g.S.TypeMatcherAlloc.nodes store) (annotations_of c.args.annotations.now) no.0, refl, refl)
 
-pub returns-then-is_full : goal.returns-then-is_full
-returns-then-is_full g c =
-    let rows = rows_of c.args.types.now in
-    let store = c.args.store.now in
-    let known = annotations_of c.args.annotations.now in
-    let l : c.args.factory.ty < length rows = omega (arith, c.if-t-count.false, c.count.ensures) in
-    record {
-      made = (no_place g.S.TypeMatcherAlloc.sharing (g.S.TypeMatcherAlloc.limit store) rows (g.C.TyCustom.custom c.args.customs.now).wild c.args.factory.ty (g.S.TypeMatcherAlloc.nodes store) known l (leb-true most_annotations (length known) (sym c.is_full.ensures ∙ c.if-is_full.true)), refl, refl);
-      means = tt;
-      stand = stays (g.S.TypeMatcherAlloc.nodes store);
-      limit = refl;
-    }
-
-pub returns-then-not-has_room : goal.returns-then-not-has_room
-returns-then-not-has_room g c =
+pub returns-then-is_full-clause-made : goal.returns-then-is_full-clause-made
+returns-then-is_full-clause-made g c =
     let rows = rows_of c.args.types.now in
     let store = c.args.store.now in
     let ns = g.S.TypeMatcherAlloc.nodes store in
     let limit = g.S.TypeMatcherAlloc.limit store in
+    let sh = g.S.TypeMatcherAlloc.sharing in
+    let wild = (g.C.TyCustom.custom c.args.customs.now).wild in
     let t = c.args.factory.ty in
-    let l : t < length rows = omega (arith, c.if-t-count.false, c.count.ensures) in
-    let r : limit - used ns < 2 * (row rows t).heavy = leb-false (2 * (row rows t).heavy) (limit - used ns) (sym c.has_room.ensures ∙ c.if-not-has_room.true) in
-    record {
-      made = (no_room g.S.TypeMatcherAlloc.sharing limit rows (g.C.TyCustom.custom c.args.customs.now).wild t ns (annotations_of c.args.annotations.now) l r, refl, refl);
-      means = tt;
-      stand = stays ns;
-      limit = refl;
-    }
+    let known = annotations_of c.args.annotations.now in
+    let ok = says_ok rows t (λ w. w.heavy) c.in_ok-weight.weight c.in_ok-weight.ensures.held in
+    elim c.then-is_full.branch [
+      | then-is_full-via-then-is_full w ↦ (no_place sh limit rows wild t ns known ok.0 (leb-true most_annotations (length known) (sym c.is_full.ensures ∙ w.if-is_full.true)), refl, refl)
+      | then-is_full-via-else-is_full+then-free-weight w ↦ (no_room sh limit rows wild t ns known ok.0 (omega (arith, ok.1, w.free.ensures, w.if-free-weight.true)), refl, refl)
+    ]
 
 pub returns : goal.returns
 returns g c =
@@ -61,9 +47,9 @@ returns g c =
     let custom = g.C.TyCustom.custom c.args.customs.now in
     let t = c.args.factory.ty in
     let known = annotations_of c.args.annotations.now in
-    let l : t < length rows = omega (arith, c.if-t-count.false, c.count.ensures) in
+    let ok = says_ok rows t (λ w. w.heavy) c.in_ok-weight.weight c.in_ok-weight.ensures.held in
     let few : length known < most_annotations = leb-false most_annotations (length known) (sym c.is_full.ensures ∙ c.if-is_full.false) in
-    let r : 2 * (row rows t).heavy ≤ limit - used ns = leb-true (2 * (row rows t).heavy) (limit - used ns) (sym c.has_room.ensures ∙ c.if-not-has_room.false) in
-    let may : May sh limit rows custom.wild t ns known = record { stands = l; few = few; room = r } in
+    let r : 2 * (row rows t).heavy ≤ limit - used ns = omega (arith, ok.1, c.free.ensures, c.if-free-weight.false) in
+    let may : May sh limit rows custom.wild t ns known = record { stands = ok.0; few = few; room = r } in
     let f = finish custom sh limit rows t ns (g.S.TypeMatcherAlloc.nodes c.write_ty-root.new.store) known (annotations_of c.enter.new.self) c.write_ty-root.result c.enter.result.0 (g.met.C.TyCustom.open c.args.customs.now) (sound_of c.args.types.now) (g.met.S.TypeMatcherAlloc.granted store) may c.write_ty-root.ensures.nodes c.write_ty-root.ensures.root c.enter.ensures.list c.enter.ensures.number in
     record { made = f.made; means = (f.for_type, f.means); stand = f.stand; limit = c.write_ty-root.ensures.limit }
