@@ -1,10 +1,10 @@
 pub mod Words
 pub mod Walks
+pub mod Bounds
 pub mod Sizes
 pub mod Stores
 pub mod Fitting
 pub mod Joining
-pub mod Bounds
 pub mod Cutting
 pub mod Making
 pub mod Judging

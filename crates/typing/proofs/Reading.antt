@@ -1,39 +1,27 @@
 -- What is read of a table of types. Assumes nothing.
-use Rattle.std.proofs.Common.{◌≡◌, ℕ, zero, suc, ◌<◌, ◌≤◌, true, false, List, [], ◌∷◌, length, get_or, Some, None, Ok, Err, vec_items, vec_len, vec_capacity, Result, sym, refl, ap, ◌∙◌, arith}
+use Rattle.std.proofs.Common.{◌≡◌, ℕ, zero, suc, ◌<◌, ◌≤◌, true, false, List, [], ◌∷◌, length, get_or, Some, None, Ok, Err, Result, sym, refl, ap, ◌∙◌, arith}
 use Rattle.std.proofs.lemmas.List.{length-map, get_or-map, get_or_default}
-use Rattle.std.proofs.lemmas.Bool.{lt-ltb, le-ltb}
+use Rattle.std.proofs.lemmas.Bool.{lt-ltb}
 use Rattle.std.specs.List.{slice_get}
 use Rattle.values.specs.declared.refusal.Refusal.{Refusal}
-use Rattle.values.specs.declared.refusal.Refusal.TheVariants.{NoType}
-use Rattle.membership.specs.Rows.{Alt, any, Row, row, never, is_any, each, Sound, grown, granted, Outcome, union2}
+use Rattle.membership.specs.Rows.{Alt, any, Row, row, never, is_any, each, Sound, grown, union2}
 use Rattle.membership.specs.Readings.{elems, just_any, plain_alt, plain_of}
-use Rattle.membership.specs.Measures.{depth, weight}
 use Rattle.membership.proofs.Laws.{unions}
-use Rattle.membership.proofs.Measured.{true_sizes}
-use Rattle.typing.specs.View.{alt, alts, pooled, Laid, row_of}
-use Rattle.typing.specs.Making.{Ready}
+use Rattle.typing.specs.View.{alt, alts, pooled}
 use Rattle.typing.specs.Outcomes.{type_says, BasicAt, only_of, Answered, MembersOf}
-use Rattle.typing.specs.Held.{rows_of, pool_of}
+use Rattle.typing.specs.Held.{rows_of}
+use Rattle.typing.specs.Growing.{Ready}
 use Rattle.typing.specs.declared.basic.TyBasic.{TyBasic}
 use Rattle.typing.specs.declared.basic.TyBasic.TheVariants.{Any}
-use Rattle.typing.specs.declared.rows.Row.{Row as CodeRow}
 use Rattle.typing.specs.declared.types.Types.{Types}
 use Rattle.typing.proofs.Walks.{pooled_at}
-use Rattle.typing.proofs.Sizes.{no_row, row_read}
-use Rattle.typing.proofs.Joining.{table_length}
-
-pub laid_of : (s : Types) → Laid (vec_items s.pool) (vec_items s.all) (vec_items s.rows)
-laid_of s = record { elements = s.elements; alternatives = s.alternatives }
 
 -- what always holds of the rows of a table
 pub sound_of : (s : Types) → Sound (rows_of s)
 sound_of s = record { standing = s.standing; forms = s.forms; sizes = s.sizes; own_numbers = s.unique; begun = s.begun; limited = s.limited }
 
-pub ready_of : (s : Types) → Ready (vec_items s.pool) (vec_items s.all) (vec_items s.rows) (vec_capacity s.rows) (vec_capacity s.all) (vec_capacity s.scratch)
-ready_of s = record { laid = laid_of s; sound = sound_of s; packed = omega (arith, s.packed); for_rows = s.forrows; for_all = s.forall; for_scratch = s.forscratch }
-
-pub count_of : (s : Types) → vec_len s.rows ≡ length (rows_of s)
-count_of s = table_length (pool_of s) s.all s.rows
+pub ready_of : (s : Types) → Ready s.rows s.scratch
+ready_of s = record { sound = sound_of s; packed = omega (arith, s.packed); for_rows = s.forrows; for_all = s.forall; for_scratch = s.forscratch }
 
 pub missing_row : (t : List Row) (n : ℕ) → length t ≤ n → row t n ≡ never
 missing_row [] n l = refl
@@ -45,32 +33,6 @@ says_there t n f x l e = rw (lt-ltb n (length t) l) (ap (λ (y : ℕ). ok_of y) 
   where
     ok_of : ℕ → Result ℕ Refusal
     ok_of y = Ok y
-
-pub says_missing : (t : List Row) (n : ℕ) (f : Row → ℕ) → length t ≤ n → ◌≡◌ {A = Result ℕ Refusal} (Err NoType) (type_says t n f)
-says_missing t n f l = rw (le-ltb n (length t) l) refl
-
--- the row r, read at t
-module _ (s : Types) (t : ℕ) (l : t < vec_len s.rows) where
-  pub stands_there : t < length (rows_of s)
-  stands_there = omega (arith, count_of s)
-
-  module _ (r : CodeRow) (e : r ≡ get_or (vec_items s.rows) t r) where
-    read_row : row (rows_of s) t ≡ row_of (pool_of s) (vec_items s.all) r
-    read_row =
-        let l' : t < length (vec_items s.rows) = omega (arith, s.rows.ok.0) in
-        row_read (pool_of s) (vec_items s.all) (vec_items s.rows) t l' ∙ ap (row_of (pool_of s) (vec_items s.all)) (get_or_default (vec_items s.rows) t no_row r l' ∙ sym e)
-
-    pub read_deep : r.depth ≡ (row (rows_of s) t).deep
-    read_deep = ap (λ (z : Row). z.deep) (sym read_row)
-
-    pub read_heavy : r.weight ≡ (row (rows_of s) t).heavy
-    read_heavy = ap (λ (z : Row). z.heavy) (sym read_row)
-
-    pub read_depth : r.depth ≡ depth (rows_of s) t
-    read_depth = read_deep ∙ (true_sizes (rows_of s) t (sound_of s) stands_there).deep
-
-    pub read_weight : r.weight ≡ weight (rows_of s) t
-    read_weight = read_heavy ∙ (true_sizes (rows_of s) t (sound_of s) stands_there).heavy
 
 -- the alternatives of a type, as a slice xs
 module _ (pool : List ℕ) (xs : List TyBasic) (ys : List Alt) (is : alts pool xs ≡ ys) where
@@ -117,8 +79,3 @@ none_there (y ∷ ys) (suc i) j l = none_there ys i j (omega arith)
 pub union_members : (t t' : List Row) (a b : ℕ) (r : Result ℕ Refusal) → Sound t → Answered (union2 t a b) t t' r → MembersOf t t' a b r
 union_members t t' a b (Ok n) s h = unions t a b (grown t' n) s h
 union_members t t' a b (Err f) s h = tt
-
--- an answer, with equal outcomes and tables
-pub answered_as : (o o' : Outcome) (t t' u u' : List Row) (r : Result ℕ Refusal) → o ≡ o' → t ≡ u → t' ≡ u' → Answered o t t' r → Answered o' u u' r
-answered_as o o' t t' u u' (Ok n) p q e h = sym p ∙ h ∙ ap (λ (z : List Row). granted (grown z n)) e
-answered_as o o' t t' u u' (Err f) p q e h = (sym e ∙ h.0 ∙ q, sym p ∙ h.1)

@@ -1,26 +1,38 @@
 -- A fixed tuple: its elements are added to the pool, and cut off again where no type is added. Assumes nothing.
-use Rattle.std.proofs.Common.{◌≡◌, ℕ, zero, suc, ◌+◌, ◌-◌, ◌<◌, ◌≤◌, min, max, Bool, true, false, cond, ◌||◌, ltb, leb, ◌⊎◌, List, [], ◌∷◌, ◌++◌, length, take, drop, Some, None, Ok, Err, Option, Result, sym, refl, ap, ◌∙◌, subst, ap₂, inl, inr, add-zero, arith, length-append}
+use Rattle.std.proofs.Common.{◌≡◌, ℕ, zero, suc, ◌+◌, ◌-◌, ◌<◌, ◌≤◌, min, Bool, true, false, cond, ◌||◌, ltb, leb, ◌⊎◌, List, [], ◌∷◌, ◌++◌, length, take, drop, Some, None, Ok, Err, Option, Result, vec_items, vec_capacity, sym, refl, ap, ◌∙◌, subst, ap₂, inl, inr, add-zero, arith, length-append}
 use Rattle.std.proofs.lemmas.List.{take_all, take_at, drop_at, length-map}
 use Rattle.std.proofs.lemmas.Bool.{and_parts, and_from, or_parts, leb-true, le-leb, lt-ltb}
 use Rattle.std.specs.List.{between}
 use Rattle.values.specs.declared.refusal.Refusal.{Refusal}
 use Rattle.values.specs.declared.refusal.Refusal.TheVariants.{TooDeep, TooWide}
-use Rattle.membership.specs.Rows.{Alt, tuple, Row, row, never, elements, made_row, parts, all_below_lem, deepest, all_places, any_of, too_long, too_deep, too_wide, find, intern, intern_by, Grown, grown, judged, verdict, single, Outcome, granted, refused, each, Sound}
+use Rattle.membership.specs.Rows.{Alt, tuple, Row, row, never, elements, made_row, parts, deepest, all_below_lem, all_places, any_of, too_long, too_deep, too_wide, find, intern, intern_by, Grown, grown, judged, verdict, single, Outcome, granted, refused, each, Sound}
 use Rattle.membership.proofs.Eachs.{each_under}
 use Rattle.membership.proofs.Kepts.{find_row_lem}
 use Rattle.membership.proofs.Laws.{judged_granted}
 use Rattle.membership.proofs.Measured.{limits_of, none_at_lem}
-use Rattle.typing.specs.View.{alt, alts, pooled, table, row_of, Laid}
-use Rattle.typing.specs.Making.{Ready, Done}
+use Rattle.typing.specs.View.{alt, alts, pooled, table, row_of}
+use Rattle.typing.specs.Held.{table_of, pool_in}
+use Rattle.typing.specs.Growing.{Grew, Ready}
 use Rattle.typing.specs.Outcomes.{Answered}
 use Rattle.typing.specs.declared.basic.TyBasic.{TyBasic}
 use Rattle.typing.specs.declared.basic.TyBasic.TheVariants as basic
 use Rattle.typing.specs.declared.basic.TyTuple.TheVariants.{Elems, Of}
 use Rattle.typing.specs.declared.rows.Row.{Row as CodeRow}
+use Rattle.typing.specs.declared.types.Rows.{Rows}
 use Rattle.typing.proofs.Walks.{each_between}
+use Rattle.typing.proofs.Bounds.{deepest_both}
 use Rattle.typing.proofs.Stores.{table_kept, places_push}
+use Rattle.typing.proofs.Joining.{Alls}
 use Rattle.typing.proofs.Cutting.{judged_refused}
-use Rattle.typing.proofs.Reading.{missing_row, answered_as}
+use Rattle.typing.proofs.Reading.{missing_row}
+
+table_count : (s : Rows) → length (table_of s) ≡ length (vec_items s.rows)
+table_count s = length-map (vec_items s.rows) (row_of (pool_in s) (vec_items s.all))
+
+-- an answer, with equal outcomes and tables
+pub answered_as : (o o' : Outcome) (t t' u u' : List Row) (r : Result ℕ Refusal) → o ≡ o' → t ≡ u → t' ≡ u' → Answered o t t' r → Answered o' u u' r
+answered_as o o' t t' u u' (Ok n) p q e h = sym p ∙ h ∙ ap (λ (z : List Row). granted (grown z n)) e
+answered_as o o' t t' u u' (Err f) p q e h = (sym e ∙ h.0 ∙ q, sym p ∙ h.1)
 
 side : (i n : ℕ) → (i < n) ⊎ (n ≤ i)
 side zero zero = inr (omega arith)
@@ -91,11 +103,8 @@ module _ (pool more : List ℕ) where
   table_longer all [] h = refl
   table_longer all (r ∷ rows) h = ap₂ ◌∷◌ (row_longer all r h) (table_longer all rows h)
 
-  pub laid_longer : (all : List TyBasic) (rows : List CodeRow) → Laid pool all rows → Laid (pool ++ more) all rows
-  laid_longer all rows l = record {
-    elements = each_under (pooled (length pool)) (pooled (length (pool ++ more))) all (λ x h. pooled_up (length pool) (length (pool ++ more)) x (omega (arith, length-append pool more)) h) l.elements;
-    alternatives = l.alternatives;
-  }
+  pub pooled_longer : (all : List TyBasic) → each (pooled (length pool)) all ≡ true → each (pooled (length (pool ++ more))) all ≡ true
+  pooled_longer all h = each_under (pooled (length pool)) (pooled (length (pool ++ more))) all (λ x k. pooled_up (length pool) (length (pool ++ more)) x (omega (arith, length-append pool more)) k) h
 
   pub own_elements : (from to : ℕ) → from ≡ length pool → to ≡ length pool + length more → between from to (pool ++ more) ≡ more
   own_elements from to p q =
@@ -116,100 +125,99 @@ grown_places t u x n e other = go (all_below_lem (length t) (parts x)) e
     go true p = by_find (find 0 t (x ∷ [])) (judged_granted (intern t (x ∷ [])) (grown u n) p).0
     go false p = let z : ◌≡◌ {A = ℕ} 0 1 = cc in absurd (omega arith)
 
--- what a tuple leaves, where p is the pool after it
-pub record Tupled (o : Outcome) (t : List Row) (all : List TyBasic) (rows : List CodeRow) (rows-cap all-cap scratch-cap : ℕ) (r : Result ℕ Refusal) (p : List ℕ) : Type 0 where
-  pub ready : Ready p all rows rows-cap all-cap scratch-cap
-  pub lean : length p + length all ≤ all_places (table p all rows)
-  pub answers : Answered o t (table p all rows) r
-
--- a tuple of the elements es, which S has last
-module _ (pool es S : List ℕ) (S-is : S ≡ pool ++ es) (all : List TyBasic) (rows : List CodeRow) (rows-cap all-cap scratch-cap : ℕ) (ready : Ready pool all rows rows-cap all-cap scratch-cap)
-    (from to : ℕ) (from_is : from ≡ length pool) (to_is : to ≡ length S) where
+-- the rows s, and s' with the elements es added to the pool
+module _ (s s' : Rows) (u : Alls) (es : List ℕ) (more : pool_in s' ≡ pool_in s ++ es) (all_same : s'.all ≡ s.all) (rows_same : s'.rows ≡ s.rows) (ready : Ready s u) (x : TyBasic) (is_tuple : alt (pool_in s') x ≡ tuple es) where
   abbrev t : List Row
-  t = table pool all rows
+  t = table_of s
 
-  abbrev x : TyBasic
-  x = basic.Tuple (Elems from to)
+  pub same_table : table_of s' ≡ t
+  same_table =
+      ap₂ (λ v w. table (pool_in s') (vec_items v) (vec_items w)) all_same rows_same ∙ ap (λ (z : List ℕ). table z (vec_items s.all) (vec_items s.rows)) more
+      ∙ table_longer (pool_in s) es (vec_items s.all) (vec_items s.rows) s.elements
 
-  same_table : table S all rows ≡ t
-  same_table = ap (λ (z : List ℕ). table z all rows) S-is ∙ table_longer pool es all rows ready.laid.elements
+  count : length (pool_in s') ≡ length (pool_in s) + length es
+  count = ap length more ∙ length-append (pool_in s) es
 
-  S_count : length S ≡ length pool + length es
-  S_count = ap length S-is ∙ length-append pool es
-
-  pub ready_longer : Ready S all rows rows-cap all-cap scratch-cap
+  pub ready_longer : Ready s' u
   ready_longer = record {
-    laid = subst (λ (z : List ℕ). Laid z all rows) (sym S-is) (laid_longer pool es all rows ready.laid);
     sound = subst Sound (sym same_table) ready.sound;
-    packed = omega (arith, ready.packed, ap all_places same_table);
-    for_rows = ready.for_rows;
-    for_all = ready.for_all;
+    packed = omega (arith, ready.packed, ap all_places same_table, ap (λ v. length (vec_items v)) all_same);
+    for_rows = omega (arith, ready.for_rows, ap (λ v. vec_capacity v) rows_same);
+    for_all = omega (arith, ready.for_all, ap (λ v. vec_capacity v) all_same);
     for_scratch = ready.for_scratch;
   }
 
-  pub tuple_pooled : pooled (length S) x ≡ true
-  tuple_pooled = and_from (leb from to) (leb to (length S)) (le-leb from to (omega (arith, S_count))) (le-leb to (length S) (omega arith))
-
-  is_tuple : alt S x ≡ tuple es
-  is_tuple = ap tuple (ap (between from to) S-is ∙ own_elements pool es from to from_is (to_is ∙ S_count))
-
-  same_outcome : single (table S all rows) (alt S x) ≡ single t (tuple es)
+  same_outcome : single (table_of s') (alt (pool_in s') x) ≡ single t (tuple es)
   same_outcome = ap₂ single same_table is_tuple
 
-  module _ (all' : List TyBasic) (rows' : List CodeRow) (rows-cap' all-cap' scratch-cap' : ℕ) (r : Result ℕ Refusal)
-      (done : Done (single (table S all rows) (alt S x)) S all all' rows rows' rows-cap' all-cap' scratch-cap' r) (few : length all' ≤ length all + 1)
-      (lean : length pool + length all ≤ all_places t) where
+  module _ (s'' : Rows) (r : Result ℕ Refusal) (grew : Grew s' s'') (answered : Answered (single (table_of s') (alt (pool_in s') x)) (table_of s') (table_of s'') r) (few : length (vec_items s''.all) ≤ length (vec_items s'.all) + 1)
+      (lean : length (pool_in s) + length (vec_items s.all) ≤ all_places t) where
+    long_pool : pool_in s'' ≡ pool_in s'
+    long_pool = ap (λ v. vec_items v) grew.pool_stays
+
+    same_all : length (vec_items s'.all) ≡ length (vec_items s.all)
+    same_all = ap (λ v. length (vec_items v)) all_same
+
     -- no row was added, and the elements are cut off again
-    module _ (same : length rows' ≡ length rows) (p : List ℕ) (p_is : p ≡ take from S) where
-      rows_back : rows' ≡ rows
-      rows_back = sym (take_all (length rows) rows' (omega arith)) ∙ done.grew.rows_stay
+    module _ (same : length (table_of s'') ≡ length t) (from : ℕ) (from_is : from ≡ length (pool_in s)) (P : List ℕ) (P_is : P ≡ take from (pool_in s'')) where
+      rows_back : vec_items s''.rows ≡ vec_items s.rows
+      rows_back =
+          let e : length (vec_items s''.rows) ≤ length (vec_items s'.rows) = omega (arith, table_count s'', table_count s, same, ap (λ v. length (vec_items v)) rows_same) in
+          sym (take_all (length (vec_items s'.rows)) (vec_items s''.rows) e) ∙ grew.rows_stay ∙ ap (λ v. vec_items v) rows_same
 
-      same_rows : table S all' rows' ≡ table S all rows
-      same_rows = ap (table S all') rows_back ∙ table_kept S all all' rows done.grew.all_stay ready.laid.alternatives
+      same_rows : table_of s'' ≡ table_of s'
+      same_rows =
+          ap₂ (λ (y : List ℕ) (z : List CodeRow). table y (vec_items s''.all) z) long_pool (rows_back ∙ ap (λ v. vec_items v) (sym rows_same))
+          ∙ table_kept (pool_in s') (vec_items s'.all) (vec_items s''.all) (vec_items s'.rows) grew.all_stay s'.alternatives
 
-      all_back : all' ≡ all
-      all_back = sym (take_all (length all) all' (omega (arith, done.grew.packed, ap all_places same_rows))) ∙ done.grew.all_stay
+      all_back : vec_items s''.all ≡ vec_items s.all
+      all_back =
+          let e : length (vec_items s''.all) ≤ length (vec_items s'.all) = omega (arith, grew.packed, ap all_places same_rows) in
+          sym (take_all (length (vec_items s'.all)) (vec_items s''.all) e) ∙ grew.all_stay ∙ ap (λ v. vec_items v) all_same
 
-      pool_back : p ≡ pool
-      pool_back = p_is ∙ ap (take from) S-is ∙ ap (λ (k : ℕ). take k (pool ++ es)) from_is ∙ take_at pool es (length pool) refl
+      pool_back : P ≡ pool_in s
+      pool_back = P_is ∙ ap (take from) (long_pool ∙ more) ∙ ap (λ (k : ℕ). take k (pool_in s ++ es)) from_is ∙ take_at (pool_in s) es (length (pool_in s)) refl
 
-      table_back : table p all' rows' ≡ t
-      table_back = ap (λ (z : List ℕ). table z all' rows') pool_back ∙ ap₂ (table pool) all_back rows_back
+      pub back_elements : each (pooled (length P)) (vec_items s''.all) ≡ true
+      back_elements = ap₂ (λ (y : List ℕ) (z : List TyBasic). each (pooled (length y)) z) pool_back all_back ∙ s.elements
 
-      pub tuple_back : Tupled (single t (tuple es)) t all' rows' rows-cap' all-cap' scratch-cap' r p
-      tuple_back = record {
-        ready = record {
-          laid = subst (λ (z : List ℕ). Laid z all' rows') (sym pool_back) (subst (λ (z : List TyBasic). Laid pool z rows') (sym all_back) (subst (λ (z : List CodeRow). Laid pool all z) (sym rows_back) ready.laid));
-          sound = subst Sound (sym table_back) ready.sound;
-          packed = omega (arith, ready.packed, ap length all_back, ap all_places table_back);
-          for_rows = done.ready.for_rows;
-          for_all = done.ready.for_all;
-          for_scratch = done.ready.for_scratch;
-        };
-        lean = omega (arith, lean, ap length pool_back, ap length all_back, ap all_places table_back);
-        answers = answered_as (single (table S all rows) (alt S x)) (single t (tuple es)) (table S all rows) (table S all' rows') t (table p all' rows') r same_outcome same_table (same_rows ∙ same_table ∙ sym table_back) done.answers;
-      }
+      pub table_back : table P (vec_items s''.all) (vec_items s''.rows) ≡ t
+      table_back = ap (λ (z : List ℕ). table z (vec_items s''.all) (vec_items s''.rows)) pool_back ∙ ap₂ (table (pool_in s)) all_back rows_back
+
+      pub back_sound : Sound (table P (vec_items s''.all) (vec_items s''.rows))
+      back_sound = subst Sound (sym table_back) ready.sound
+
+      pub back_packed : length P + length (vec_items s''.all) ≤ all_places (table P (vec_items s''.all) (vec_items s''.rows))
+      back_packed = omega (arith, lean, ap length pool_back, ap length all_back, ap all_places table_back)
+
+      pub back_answered : Answered (single t (tuple es)) t (table P (vec_items s''.all) (vec_items s''.rows)) r
+      back_answered = answered_as (single (table_of s') (alt (pool_in s') x)) (single t (tuple es)) (table_of s') (table_of s'') t (table P (vec_items s''.all) (vec_items s''.rows)) r same_outcome same_table (same_rows ∙ same_table ∙ sym table_back) answered
 
     -- a row was added
-    module _ (other : length rows' ≡ length rows → ⊥) where
-      table_count : (p : List ℕ) (a : List TyBasic) (q : List CodeRow) → length (table p a q) ≡ length q
-      table_count p a q = length-map q (row_of p a)
+    module _ (other : length (table_of s'') ≡ length t → ⊥) where
+      longer : length (table_of s'') ≡ length (table_of s') → ⊥
+      longer e = other (e ∙ ap length same_table)
 
-      longer : length (table S all' rows') ≡ length (table S all rows) → ⊥
-      longer e = other (sym (table_count S all' rows') ∙ e ∙ table_count S all rows)
-
-      its_places : (a : Result ℕ Refusal) → Answered (single (table S all rows) (alt S x)) (table S all rows) (table S all' rows') a → all_places (table S all' rows') ≡ all_places t + (1 + length es)
-      its_places (Ok n) h =
-          grown_places (table S all rows) (table S all' rows') (alt S x) n h longer
-          ∙ ap₂ (λ (y : List Row) (z : Alt). all_places y + (1 + elements z)) same_table is_tuple
+      its_places : (a : Result ℕ Refusal) → Answered (single (table_of s') (alt (pool_in s') x)) (table_of s') (table_of s'') a → all_places (table_of s'') ≡ all_places t + (1 + length es)
+      its_places (Ok n) h = grown_places (table_of s') (table_of s'') (alt (pool_in s') x) n h longer ∙ ap₂ (λ (y : List Row) (z : Alt). all_places y + (1 + elements z)) same_table is_tuple
       its_places (Err f) h = absurd (longer (ap length h.0))
 
-      pub tuple_on : Tupled (single t (tuple es)) t all' rows' rows-cap' all-cap' scratch-cap' r S
-      tuple_on = record {
-        ready = done.ready;
-        lean = omega (arith, lean, few, S_count, its_places r done.answers);
-        answers = answered_as (single (table S all rows) (alt S x)) (single t (tuple es)) (table S all rows) (table S all' rows') t (table S all' rows') r same_outcome same_table refl done.answers;
-      }
+      pub on_packed : length (pool_in s'') + length (vec_items s''.all) ≤ all_places (table_of s'')
+      on_packed = omega (arith, lean, few, count, same_all, ap length long_pool, its_places r answered)
+
+      pub on_answered : Answered (single t (tuple es)) t (table_of s'') r
+      on_answered = answered_as (single (table_of s') (alt (pool_in s') x)) (single t (tuple es)) (table_of s') (table_of s'') t (table_of s'') r same_outcome same_table refl answered
+
+-- the elements es, added to the pool from one place to another
+module _ (pool es : List ℕ) (more : List ℕ) (more_is : more ≡ pool ++ es) (from to : ℕ) (from_is : from ≡ length pool) (to_is : to ≡ length more) where
+  long : length more ≡ length pool + length es
+  long = ap length more_is ∙ length-append pool es
+
+  pub whole_pooled : pooled (length more) (basic.Tuple (Elems from to)) ≡ true
+  whole_pooled = and_from (leb from to) (leb to (length more)) (le-leb from to (omega (arith, long))) (le-leb to (length more) (omega arith))
+
+  pub whole_is : alt more (basic.Tuple (Elems from to)) ≡ tuple es
+  whole_is = ap tuple (ap (between from to) more_is ∙ own_elements pool es from to from_is (to_is ∙ long))
 
 -- more elements than a tuple may have
 module _ (t : List Row) (es : List ℕ) (sound : Sound t) (long : 64 < length es) where
@@ -260,33 +268,5 @@ module _ (t : List Row) (es : List ℕ) (sound : Sound t) (long : 64 < length es
     pub long_wide : too_deep m ≡ false → single t (tuple es) ≡ refused 8
     long_wide h = made ∙ judged_refused (grown (t ++ m ∷ []) (length t)) TooWide (broken false h)
 
--- a depth doesn't depend on the pool
-module _ (p q : List ℕ) (all : List TyBasic) where
-  deep_same : (rows : List CodeRow) (n : ℕ) → (row (table p all rows) n).deep ≡ (row (table q all rows) n).deep
-  deep_same [] n = refl
-  deep_same (r ∷ rows) zero = refl
-  deep_same (r ∷ rows) (suc n) = deep_same rows n
-
-  deepest_same : (rows : List CodeRow) (ps : List ℕ) → deepest (table p all rows) ps ≡ deepest (table q all rows) ps
-  deepest_same rows [] = refl
-  deepest_same rows (n ∷ ps) = ap₂ max (deep_same rows n) (deepest_same rows ps)
-
--- the elements as a pool of their own
-module _ (es : List ℕ) (all : List TyBasic) (rows : List CodeRow) (to : ℕ) (to_is : to ≡ length es) where
-  abbrev whole : TyBasic
-  whole = basic.Tuple (Elems 0 to)
-
-  pub whole_pooled : pooled (length es) whole ≡ true
-  whole_pooled = and_from (leb 0 to) (leb to (length es)) (le-leb 0 to (omega arith)) (le-leb to (length es) (omega arith))
-
-  whole_is : between 0 to es ≡ es
-  whole_is = take_all (to - 0) es (omega arith)
-
-  pub whole_below : (n : ℕ) → all_below_lem n (parts (alt es whole)) ≡ all_below_lem n es
-  whole_below n = ap (all_below_lem n) whole_is
-
-  pub whole_deep : (pool : List ℕ) (d : ℕ) → d ≡ min 33 (1 + deepest (table es all rows) (parts (alt es whole))) → ltb 32 d ≡ too_deep (made_row (table pool all rows) (tuple es ∷ []))
-  whole_deep pool d e =
-      let a : deepest (table es all rows) (parts (alt es whole)) ≡ deepest (table pool all rows) es = ap (deepest (table es all rows)) whole_is ∙ deepest_same es pool all rows es in
-      let b : d ≡ min 33 (max (1 + deepest (table pool all rows) es) 1) = omega (arith, a) in
-      ap (ltb 32) b
+  pub long_depth : (d : ℕ) → d ≡ min 33 (1 + deepest t (es ++ [])) → ltb 32 d ≡ too_deep m
+  long_depth d e = ap (ltb 32) (omega (arith, deepest_both t es []))

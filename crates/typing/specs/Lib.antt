@@ -3,3 +3,4 @@ pub mod Rooms
 pub mod Making
 pub mod Outcomes
 pub mod Held
+pub mod Growing

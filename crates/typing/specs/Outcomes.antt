@@ -9,9 +9,9 @@ use Rattle.typing.specs.View.{alt, pooled}
 use Rattle.typing.specs.declared.basic.TyBasic.{TyBasic}
 
 -- the number of a refusal, or 0 where there is none
-abbrev pub first_number : Option Refusal → ℕ
-first_number None = 0
-first_number (Some f) = number f
+abbrev pub first_number : Result (Unit {0}) Refusal → ℕ
+first_number (Ok _) = 0
+first_number (Err f) = number f
 
 -- what a call on the table t answers, and the table t' that it leaves: a refused call adds nothing
 abbrev pub Answered : Outcome → List Row → List Row → Result ℕ Refusal → Type 0

@@ -1,5 +1,5 @@
 -- The alternatives and the rows that the code holds, as plain lists. Assumes nothing.
-use Rattle.std.specs.Prelude.{◌≡◌, ℕ, ◌+◌, ◌≤◌, Bool, true, ◌&&◌, List, map, length, take, nat_le}
+use Rattle.std.specs.Prelude.{◌≡◌, ℕ, ◌-◌, Bool, true, ◌&&◌, List, map, length, nat_le}
 use Rattle.std.specs.List.{between}
 use Rattle.membership.specs.Rows.{Alt, any, plain, iter, callable, kind, list, tuple, tuple_of, dict, custom, set_of, each}
 use Rattle.membership.specs.Rows as theory
@@ -37,6 +37,20 @@ pooled n (basic.Dict k v) = true
 pooled n (basic.Custom k) = true
 pooled n (basic.Set t) = true
 
+-- how many places of the pool its elements take
+abbrev pub span : TyBasic → ℕ
+span basic.Any = 0
+span (basic.StarlarkValue k) = 0
+span (basic.Iter t) = 0
+span basic.Callable = 0
+span basic.Type = 0
+span (basic.List t) = 0
+span (basic.Tuple (Elems from to)) = to - from
+span (basic.Tuple (Of t)) = 0
+span (basic.Dict k v) = 0
+span (basic.Custom k) = 0
+span (basic.Set t) = 0
+
 abbrev pub alts : List ℕ → List TyBasic → List Alt
 alts pool xs = map (alt pool) xs
 
@@ -57,11 +71,3 @@ pub record Laid (pool : List ℕ) (all : List TyBasic) (rows : List Row) : Type 
 
 abbrev pub inner_of : Inner → theory.Inner
 inner_of p = record { item = p.item; key = p.key; value = p.value }
-
--- rows and alternatives that were added: those before stay
-pub record Grew (pool : List ℕ) (all all' : List TyBasic) (rows rows' : List Row) : Type 0 where
-  pub laid : Laid pool all' rows'
-  pub all_stay : take (length all) all' ≡ all
-  pub rows_stay : take (length rows) rows' ≡ rows
-  -- no more alternatives are added than the rows that are added take places
-  pub packed : length all' + theory.all_places (table pool all rows) ≤ length all + theory.all_places (table pool all' rows')

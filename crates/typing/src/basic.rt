@@ -3,9 +3,10 @@ ghost use Rattle.std.specs.Prelude.{◌≡◌, ℕ, ◌+◌, ◌<◌, ◌≤◌,
 ghost use Rattle.std.specs.List.{slice_get};
 ghost use Rattle.membership.specs.Rows.{rank, numbers, parts, elements, compared, same_alts, put, put_settled_lem, settle, inner, no_inner, with_part, each, is_any};
 ghost use Rattle.membership.specs.Readings.{elems, plain_alt};
-ghost use Rattle.typing.specs.View.{alt, alts, pooled, inner_of};
+ghost use Rattle.typing.specs.View.{alt, alts, pooled, span, inner_of};
 
 use std::cmp::Ordering;
+use std::slice;
 
 // A tuple's elements: those of the pool from one place to another, or one type for every element.
 #[derive(Clone, Copy)]
@@ -48,14 +49,6 @@ fn pool_number(pool: &[usize], from: usize, to: usize, i: usize) -> Option<usize
     }
 }
 
-// How many numbers of the pool stand from one place to another.
-fn pool_count(pool: &[usize], from: usize, to: usize) -> usize
-    requires { pooled (length pool.now) (TyBasic.Tuple (TyTuple.Elems from to)) ≡ true }
-    ensures { result ≡ elements (alt pool.now (TyBasic.Tuple (TyTuple.Elems from to))) }
-{
-    to - from
-}
-
 impl TyBasic {
     // The place of the kind in the order of kinds.
     pub(crate) fn rank(&self) -> usize
@@ -93,33 +86,28 @@ impl TyBasic {
         }
     }
 
-    // The number of the type at `i` of those that the alternative is made of.
-    pub(crate) fn part(&self, pool: &[usize], i: usize) -> Option<usize>
+    // The numbers of the types that the alternative is made of. The key and the value of a dict don't stand side by side.
+    pub(crate) fn parts<'a>(&'a self, pool: &'a [usize]) -> (&'a [usize], &'a [usize])
         requires { pooled (length pool.now) self.now ≡ true }
-        ensures { result ≡ slice_get (parts (alt pool.now self.now)) i }
+        ensures { result.0.now ++ result.1.now ≡ parts (alt pool.now self.now) }
     {
         match self {
             TyBasic::Iter(t)
             | TyBasic::List(t)
             | TyBasic::Set(t)
-            | TyBasic::Tuple(TyTuple::Of(t)) => only(*t, i),
-            TyBasic::Tuple(TyTuple::Elems(from, to)) => pool_number(pool, *from, *to, i),
-            TyBasic::Dict(k, v) => { if i == 0 { Some(*k) } else { only(*v, i - 1) } }
-            TyBasic::Any
-            | TyBasic::StarlarkValue(_)
-            | TyBasic::Callable
-            | TyBasic::Type
-            | TyBasic::Custom(_) => None,
+            | TyBasic::Tuple(TyTuple::Of(t)) => (slice::from_ref(t), &[]),
+            TyBasic::Tuple(TyTuple::Elems(from, to)) => (&pool[*from..*to], &[]),
+            TyBasic::Dict(k, v) => (slice::from_ref(k), slice::from_ref(v)),
+            _ => (&[], &[]),
         }
     }
 
     // How many elements a fixed tuple has.
-    pub(crate) fn elements(&self, pool: &[usize]) -> usize
-        requires { pooled (length pool.now) self.now ≡ true }
-        ensures { result ≡ elements (alt pool.now self.now) }
+    pub(crate) fn elements(&self) -> usize
+        ensures { result ≡ span self.now }
     {
         match self {
-            TyBasic::Tuple(TyTuple::Elems(from, to)) => pool_count(pool, *from, *to),
+            TyBasic::Tuple(TyTuple::Elems(from, to)) => to.saturating_sub(*from),
             _ => 0,
         }
     }

@@ -6,11 +6,9 @@ ghost use Rattle.typing.specs.Outcomes.{Answered, MembersOf};
 ghost use Rattle.typing.specs.Held.{rows_of, pool_of};
 
 use crate::basic::{TyBasic, TyTuple};
-use crate::limits::{MAX_PLACES, MAX_TYPES, MAX_WEIGHT, MAX_WIDTH, is_long};
-use crate::rows::Row;
-use crate::tuples::{long_tuple, make_tuple};
-use crate::types::Types;
-use crate::unions::{make_single, make_union};
+use crate::limits::{MAX_PLACES, MAX_TYPES, MAX_WEIGHT, MAX_WIDTH};
+use crate::rows::{NEVER, Row};
+use crate::types::{Rows, Types};
 use std::alloc::{AllocError, Global};
 use values::refusal::Refusal;
 
@@ -45,12 +43,7 @@ impl Types {
         let pool = Vec::with_capacity(heap, POOL_ROOM)?;
         let scratch = Vec::with_capacity(heap, SCRATCH_ROOM)?;
         all.push_reserved(TyBasic::Any);
-        rows.push_reserved(Row {
-            start: 0,
-            end: 0,
-            depth: 1,
-            weight: 1,
-        });
+        rows.push_reserved(NEVER);
         rows.push_reserved(Row {
             start: 0,
             end: 1,
@@ -58,9 +51,7 @@ impl Types {
             weight: 1,
         });
         Ok(Types {
-            rows,
-            all,
-            pool,
+            rows: Rows { rows, all, pool },
             scratch,
         })
     }
@@ -71,13 +62,7 @@ impl Types {
         requires plainly { plainly (alt (pool_of self.old) x) ≡ true }
         ensures { Answered (single (rows_of self.old) (alt (pool_of self.old) x)) (rows_of self.old) (rows_of self.new) result }
     {
-        make_single(
-            &mut self.rows,
-            &mut self.all,
-            &mut self.scratch,
-            self.pool.as_slice(),
-            x,
-        )
+        self.rows.single(&mut self.scratch, x)
     }
 
     // The type of the values with this type number.
@@ -122,16 +107,18 @@ impl Types {
     pub fn tuple(&mut self, elements: &[usize]) -> Result<usize, Refusal>
         ensures { Answered (single (rows_of self.old) (tuple elements.now)) (rows_of self.old) (rows_of self.new) result }
     {
-        if is_long(elements.len()) {
-            return Err(long_tuple(self.rows.as_slice(), self.all.as_slice(), elements));
+        if elements.len() > MAX_WIDTH {
+            return Err(self.rows.long_tuple(elements));
         }
-        make_tuple(
-            &mut self.rows,
-            &mut self.all,
-            &mut self.scratch,
-            &mut self.pool,
-            elements,
-        )
+        let count = self.rows.count();
+        let from = self.rows.pool.len();
+        let whole = self.rows.add_elements(elements);
+        let answer = self.rows.single(&mut self.scratch, TyBasic::Tuple(whole));
+        // The pool keeps the elements only where a type is added.
+        if self.rows.count() == count {
+            self.rows.pool.truncate(from);
+        }
+        answer
     }
 
     // The type `tuple[item, ...]`.
@@ -167,13 +154,13 @@ impl Types {
         ensures answers { Answered (union2 (rows_of self.old) a b) (rows_of self.old) (rows_of self.new) result }
         ensures members { MembersOf (rows_of self.old) (rows_of self.new) a b result }
     {
-        make_union(
-            &mut self.rows,
-            &mut self.all,
-            &mut self.scratch,
-            self.pool.as_slice(),
-            a,
-            b,
-        )
+        let stood = self.rows.count();
+        let filled = self.rows.all.len();
+        if a >= stood || b >= stood {
+            return Err(Refusal::NoType);
+        }
+        let n = self.rows.join(&mut self.scratch, a, b);
+        self.rows.judge(stood, filled)?;
+        Ok(n)
     }
 }

@@ -1,11 +1,11 @@
 // The limits of a table of types.
-ghost use Rattle.std.specs.Prelude.{◌≡◌, ◌+◌, min, true, ◌||◌, length, take, nat_lt};
-ghost use Rattle.membership.specs.Rows.{places, all_places, any_of, too_long, too_deep, too_wide, too_heavy, verdict, each};
-ghost use Rattle.typing.specs.View.{alts, table, pooled, Laid};
+ghost use Rattle.std.specs.Prelude.{◌≡◌, min};
+ghost use Rattle.membership.specs.Rows.{row, places, all_places, any_of, too_deep, too_wide, too_heavy, verdict};
+ghost use Rattle.typing.specs.Held.{table_of};
 ghost use Rattle.typing.specs.Outcomes.{first_number};
 
-use crate::basic::TyBasic;
-use crate::rows::{Row, alternatives_of, held_sum};
+use crate::rows::held_sum;
+use crate::types::Rows;
 use values::refusal::Refusal;
 
 // The most types in a table.
@@ -26,130 +26,66 @@ pub(crate) const HELD_DEPTH: usize = MAX_DEPTH + 1;
 
 pub(crate) const HELD_WEIGHT: usize = MAX_WEIGHT + 1;
 
-pub(crate) fn is_deep(depth: usize) -> bool
-    ensures { result ≡ nat_lt 32 depth }
-{
-    depth > MAX_DEPTH
-}
+impl Rows {
+    fn any_deep(&self) -> bool
+        ensures { result ≡ any_of too_deep (table_of self.now) }
+    {
+        self.rows.iter().any(|row| row.depth > MAX_DEPTH)
+    }
 
-pub(crate) fn is_long(count: usize) -> bool
-    ensures { result ≡ nat_lt 64 count }
-{
-    count > MAX_WIDTH
-}
+    // Whether the type `t` has too many alternatives, or a fixed tuple with too many elements.
+    fn is_wide(&self, t: usize) -> bool
+        ensures { result ≡ too_wide (row (table_of self.now) t) }
+    {
+        let alternatives = self.alternatives(t);
+        alternatives.len() > MAX_WIDTH || alternatives.iter().any(|x| x.elements() > MAX_WIDTH)
+    }
 
-fn is_heavy(weight: usize) -> bool
-    ensures { result ≡ nat_lt 4096 weight }
-{
-    weight > MAX_WEIGHT
-}
+    fn any_wide(&self) -> bool
+        ensures { result ≡ any_of too_wide (table_of self.now) }
+    {
+        (0..self.count()).any(|t| self.is_wide(t))
+    }
 
-// Whether so many types in so many places are too many.
-fn is_crowded(types: usize, places: usize) -> bool
-    ensures { result ≡ (nat_lt 1024 types || nat_lt 8192 places) }
-{
-    types > MAX_TYPES || places > MAX_PLACES
-}
+    fn any_heavy(&self) -> bool
+        ensures { result ≡ any_of too_heavy (table_of self.now) }
+    {
+        self.rows.iter().any(|row| row.weight > MAX_WEIGHT)
+    }
 
-fn any_long(alternatives: &[TyBasic], pool: &[usize]) -> bool
-    requires { each (pooled (length pool.now)) alternatives.now ≡ true }
-    ensures { result ≡ any_of too_long (alts pool.now alternatives.now) }
-{
-    for x in alternatives {
-        if is_long(x.elements(pool)) {
-            return true;
+    // The places that the alternatives of the type `t` take, held just past the limit.
+    fn row_places(&self, t: usize) -> usize
+        ensures { result ≡ min 8193 (places (row (table_of self.now) t).alts) }
+    {
+        self.alternatives(t).iter().fold(
+            0,
+            |sum, x| held_sum(HELD_PLACES, held_sum(HELD_PLACES, sum, 1), x.elements()),
+        )
+    }
+
+    // The places that all types take, held just past the limit.
+    fn table_places(&self) -> usize
+        ensures { result ≡ min 8193 (all_places (table_of self.now)) }
+    {
+        (0..self.count()).fold(0, |sum, t| held_sum(HELD_PLACES, sum, self.row_places(t)))
+    }
+
+    // Nothing, or else the first limit that the rows break.
+    pub(crate) fn first_refusal(&self) -> Result<(), Refusal>
+        ensures { first_number result ≡ verdict (table_of self.now) }
+    {
+        if self.any_deep() {
+            return Err(Refusal::TooDeep);
         }
-    }
-    false
-}
-
-fn is_wide(alternatives: &[TyBasic], pool: &[usize]) -> bool
-    requires { each (pooled (length pool.now)) alternatives.now ≡ true }
-    ensures { result ≡ (nat_lt 64 (length (alts pool.now alternatives.now)) || any_of too_long (alts pool.now alternatives.now)) }
-{
-    if is_long(alternatives.len()) {
-        return true;
-    }
-    any_long(alternatives, pool)
-}
-
-fn any_deep(rows: &[Row], all: &[TyBasic], pool: &[usize]) -> bool
-    ensures { result ≡ any_of too_deep (table pool.now all.now rows.now) }
-{
-    for row in rows {
-        if is_deep(row.depth) {
-            return true;
+        if self.any_wide() {
+            return Err(Refusal::TooWide);
         }
-    }
-    false
-}
-
-fn any_wide(rows: &[Row], all: &[TyBasic], pool: &[usize]) -> bool
-    requires { Laid pool.now all.now rows.now }
-    ensures { result ≡ any_of too_wide (table pool.now all.now rows.now) }
-{
-    for row in rows {
-        if is_wide(alternatives_of(all, *row), pool) {
-            return true;
+        if self.any_heavy() {
+            return Err(Refusal::TooHeavy);
         }
-    }
-    false
-}
-
-fn any_heavy(rows: &[Row], all: &[TyBasic], pool: &[usize]) -> bool
-    ensures { result ≡ any_of too_heavy (table pool.now all.now rows.now) }
-{
-    for row in rows {
-        if is_heavy(row.weight) {
-            return true;
+        if self.count() > MAX_TYPES || self.table_places() > MAX_PLACES {
+            return Err(Refusal::NoRoom);
         }
+        Ok(())
     }
-    false
-}
-
-// The places that alternatives take, held just past the limit.
-fn row_places(alternatives: &[TyBasic], pool: &[usize]) -> usize
-    requires { each (pooled (length pool.now)) alternatives.now ≡ true }
-    ensures { result ≡ min 8193 (places (alts pool.now alternatives.now)) }
-{
-    let mut sum = 0;
-    for x in alternatives {
-        sum = held_sum(HELD_PLACES, held_sum(HELD_PLACES, sum, 1), x.elements(pool));
-    }
-    sum
-}
-
-fn table_places(rows: &[Row], all: &[TyBasic], pool: &[usize]) -> usize
-    requires { Laid pool.now all.now rows.now }
-    ensures { result ≡ min 8193 (all_places (table pool.now all.now rows.now)) }
-{
-    let mut sum = 0;
-    for row in rows {
-        sum = held_sum(
-            HELD_PLACES,
-            sum,
-            row_places(alternatives_of(all, *row), pool),
-        );
-    }
-    sum
-}
-
-// The first limit that the rows break.
-pub(crate) fn first_refusal(rows: &[Row], all: &[TyBasic], pool: &[usize]) -> Option<Refusal>
-    requires { Laid pool.now all.now rows.now }
-    ensures { first_number result ≡ verdict (table pool.now all.now rows.now) }
-{
-    if any_deep(rows, all, pool) {
-        return Some(Refusal::TooDeep);
-    }
-    if any_wide(rows, all, pool) {
-        return Some(Refusal::TooWide);
-    }
-    if any_heavy(rows, all, pool) {
-        return Some(Refusal::TooHeavy);
-    }
-    if is_crowded(rows.len(), table_places(rows, all, pool)) {
-        return Some(Refusal::NoRoom);
-    }
-    None
 }

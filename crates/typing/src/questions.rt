@@ -1,15 +1,13 @@
 // The read questions of a table of types. They change nothing.
-ghost use Rattle.std.specs.Prelude.{◌≡◌, ℕ, true, length};
+ghost use Rattle.std.specs.Prelude.{◌≡◌, ℕ, length};
 ghost use Rattle.std.specs.List.{slice_get};
-ghost use Rattle.membership.specs.Rows.{row, each};
+ghost use Rattle.membership.specs.Rows.{row};
 ghost use Rattle.membership.specs.Readings.{alt_at, elems, just_any, plain_of};
 ghost use Rattle.membership.specs.Measures.{depth, weight};
-ghost use Rattle.typing.specs.View.{alts, pooled};
 ghost use Rattle.typing.specs.Outcomes.{type_says, only_of, BasicAt};
 ghost use Rattle.typing.specs.Held.{rows_of, pool_of};
 
 use crate::basic::TyBasic;
-use crate::rows::alternatives_of;
 use crate::types::Types;
 use values::refusal::Refusal;
 
@@ -25,22 +23,11 @@ fn lone(alternatives: &[TyBasic]) -> Option<TyBasic>
 }
 
 impl Types {
-    // The alternatives of the type `t`; a missing type has none.
-    fn alternatives(&self, t: usize) -> &[TyBasic]
-        ensures are { alts (pool_of self.now) result.now ≡ (row (rows_of self.now) t).alts }
-        ensures pooled { each (pooled (length (pool_of self.now))) result.now ≡ true }
-    {
-        if t < self.count() {
-            return alternatives_of(self.all.as_slice(), self.rows[t]);
-        }
-        &[]
-    }
-
     // How many types there are.
     pub fn count(&self) -> usize
         ensures { result ≡ length (rows_of self.now) }
     {
-        self.rows.len()
+        self.rows.count()
     }
 
     // How many alternatives the type `t` has.
@@ -48,7 +35,7 @@ impl Types {
         ensures { result ≡ type_says (rows_of self.now) t (λ w. length w.alts) }
     {
         if t < self.count() {
-            return Ok(self.alternatives(t).len());
+            return Ok(self.rows.alternatives(t).len());
         }
         Err(Refusal::NoType)
     }
@@ -59,7 +46,7 @@ impl Types {
         ensures measured { result ≡ type_says (rows_of self.now) t (λ _. depth (rows_of self.now) t) }
     {
         if t < self.count() {
-            return Ok(self.rows[t].depth);
+            return Ok(self.rows.row(t).depth);
         }
         Err(Refusal::NoType)
     }
@@ -70,7 +57,7 @@ impl Types {
         ensures measured { result ≡ type_says (rows_of self.now) t (λ _. weight (rows_of self.now) t) }
     {
         if t < self.count() {
-            return Ok(self.rows[t].weight);
+            return Ok(self.rows.row(t).weight);
         }
         Err(Refusal::NoType)
     }
@@ -79,7 +66,7 @@ impl Types {
     pub fn basic(&self, t: usize, i: usize) -> Option<TyBasic>
         ensures { BasicAt (pool_of self.now) (row (rows_of self.now) t).alts i result }
     {
-        let alternatives = self.alternatives(t);
+        let alternatives = self.rows.alternatives(t);
         if i < alternatives.len() {
             Some(alternatives[i])
         } else {
@@ -92,7 +79,7 @@ impl Types {
         ensures { result ≡ slice_get (elems (alt_at (rows_of self.now) t i)) j }
     {
         match self.basic(t, i) {
-            Some(x) => x.element(self.pool.as_slice(), j),
+            Some(x) => x.element(self.rows.pool.as_slice(), j),
             None => None,
         }
     }
@@ -101,7 +88,7 @@ impl Types {
     pub fn is_any(&self, t: usize) -> bool
         ensures { result ≡ just_any (row (rows_of self.now) t).alts }
     {
-        match lone(self.alternatives(t)) {
+        match lone(self.rows.alternatives(t)) {
             Some(x) => x.is_any(),
             None => false,
         }
@@ -111,7 +98,7 @@ impl Types {
     pub fn is_starlark_value(&self, t: usize) -> Option<u16>
         ensures { result ≡ plain_of (row (rows_of self.now) t).alts }
     {
-        match lone(self.alternatives(t)) {
+        match lone(self.rows.alternatives(t)) {
             Some(x) => x.plain_number(),
             None => None,
         }

@@ -1,12 +1,15 @@
 // The rows of a table of types, in memory that is reserved when the table is made.
-ghost use Rattle.std.specs.Prelude.{◌≡◌, ℕ, ◌+◌, ◌<◌, ◌≤◌, min, max, true, [], ◌∷◌, ◌++◌, length, vec_len, vec_capacity};
+ghost use Rattle.std.specs.Prelude.{◌≡◌, ℕ, ◌+◌, ◌<◌, ◌≤◌, min, true, [], ◌∷◌, ◌++◌, length, vec_len, vec_capacity};
 ghost use Rattle.std.specs.List.{between};
-ghost use Rattle.membership.specs.Rows.{find, intern, grown, parts, all_below_lem, below, deepest, total, made_row, each, Kept, Joined};
-ghost use Rattle.typing.specs.Rooms.{places, Room, Taken};
-ghost use Rattle.typing.specs.View.{alt, alts, table, pooled, placed, Laid, Grew};
+ghost use Rattle.membership.specs.Rows.{row, find, intern, grown, parts, below, deepest, total, made_row, each, Kept, Joined};
+ghost use Rattle.typing.specs.Rooms.{Room, Taken};
+ghost use Rattle.typing.specs.View.{alt, alts, row_of, pooled};
+ghost use Rattle.typing.specs.Held.{table_of, pool_in};
+ghost use Rattle.typing.specs.Growing.{Grew, held};
 
 use crate::basic::{Inner, TyBasic, inner_parts, same, unite};
 use crate::limits::{HELD_DEPTH, HELD_WEIGHT};
+use crate::types::Rows;
 
 // A type: where its alternatives stand, its depth and its weight.
 #[derive(Clone, Copy)]
@@ -17,34 +20,13 @@ pub struct Row {
     pub weight: usize,
 }
 
-// The alternatives of a row.
-pub(crate) fn alternatives_of(all: &[TyBasic], row: Row) -> &[TyBasic]
-    requires { placed (length all.now) row ≡ true }
-    ensures { result.now ≡ between row.start row.end all.now }
-{
-    let start = row.start;
-    let end = row.end;
-    &all[start..end]
-}
-
-// The number of the type with these alternatives.
-pub(crate) fn find_row(
-    rows: &[Row],
-    all: &[TyBasic],
-    new: &[TyBasic],
-    pool: &[usize],
-) -> Option<usize>
-    requires laid { Laid pool.now all.now rows.now }
-    requires new { each (pooled (length pool.now)) new.now ≡ true }
-    ensures { result ≡ find 0 (table pool.now all.now rows.now) (alts pool.now new.now) }
-{
-    for i in 0..rows.len() {
-        if same(alternatives_of(all, rows[i]), new, pool) {
-            return Some(i);
-        }
-    }
-    None
-}
+// The row of never.
+pub(crate) const NEVER: Row = Row {
+    start: 0,
+    end: 0,
+    depth: 1,
+    weight: 1,
+};
 
 // A depth and a weight, each held just past its limit.
 #[derive(Clone, Copy)]
@@ -53,25 +35,15 @@ pub struct Size {
     pub weight: usize,
 }
 
-fn larger(a: usize, b: usize) -> usize
-    ensures { result ≡ max a b }
-{
-    if a < b { b } else { a }
-}
-
 // A sum, held at `limit`.
 pub(crate) fn held_sum(limit: usize, a: usize, b: usize) -> usize
     ensures { result ≡ min limit (a + b) }
 {
-    if a < limit && b < limit - a {
-        a + b
-    } else {
-        limit
-    }
+    a.saturating_add(b).min(limit)
 }
 
-// Adds alternatives where places are reserved.
-pub(crate) fn append(all: &mut Vec<TyBasic>, new: &[TyBasic])
+// Adds alternatives where places are reserved. The library's extend_from_slice doesn't promise that the memory stays as it is.
+fn append(all: &mut Vec<TyBasic>, new: &[TyBasic])
     requires { vec_len all.old + length new.now ≤ vec_capacity all.old }
     ensures items { all.new.items ≡ all.old.items ++ new.now }
     ensures reserved { vec_capacity all.new ≡ vec_capacity all.old }
@@ -81,124 +53,156 @@ pub(crate) fn append(all: &mut Vec<TyBasic>, new: &[TyBasic])
     }
 }
 
-// The size of an alternative: 1 deeper than its deepest part, and as heavy as its parts and 1.
-pub(crate) fn alternative_size(rows: &[Row], all: &[TyBasic], x: TyBasic, pool: &[usize]) -> Size
-    requires stand { all_below_lem (length rows.now) (parts (alt pool.now x)) ≡ true }
-    requires new { pooled (length pool.now) x ≡ true }
-    ensures depth { result.depth ≡ min 33 (1 + deepest (table pool.now all.now rows.now) (parts (alt pool.now x))) }
-    ensures weight { result.weight ≡ min 4097 (1 + total (table pool.now all.now rows.now) (parts (alt pool.now x))) }
-{
-    let mut depth: usize = 0;
-    let mut weight: usize = 1;
-    let mut i = 0;
-    while let Some(p) = x.part(pool, i) {
-        let row = rows[p];
-        depth = larger(depth, row.depth);
-        weight = held_sum(HELD_WEIGHT, weight, row.weight);
-        i += 1;
+impl Rows {
+    // How many types there are.
+    pub(crate) fn count(&self) -> usize
+        ensures { result ≡ length (table_of self.now) }
+    {
+        self.rows.len()
     }
-    Size {
-        depth: held_sum(HELD_DEPTH, 1, depth),
-        weight,
-    }
-}
 
-// The size of the type with these alternatives.
-pub(crate) fn row_size(rows: &[Row], all: &[TyBasic], new: &[TyBasic], pool: &[usize]) -> Size
-    requires stand { below (length rows.now) (alts pool.now new.now) ≡ true }
-    requires new { each (pooled (length pool.now)) new.now ≡ true }
-    ensures depth { result.depth ≡ (made_row (table pool.now all.now rows.now) (alts pool.now new.now)).deep }
-    ensures weight { result.weight ≡ (made_row (table pool.now all.now rows.now) (alts pool.now new.now)).heavy }
-{
-    let mut depth: usize = 1;
-    let mut weight: usize = 0;
-    for x in new {
-        let size = alternative_size(rows, all, *x, pool);
-        depth = larger(depth, size.depth);
-        weight = held_sum(HELD_WEIGHT, weight, size.weight);
+    // The row of the type `t`; a missing type counts as never.
+    pub(crate) fn row(&self, t: usize) -> Row
+        ensures is { row_of (pool_in self.now) self.now.all.items result ≡ row (table_of self.now) t }
+        ensures depth { result.depth ≡ (row (table_of self.now) t).deep }
+        ensures weight { result.weight ≡ (row (table_of self.now) t).heavy }
+    {
+        self.rows.as_slice().get(t).copied().unwrap_or(NEVER)
     }
-    if new.len() == 1 {
-        return Size { depth, weight };
-    }
-    Size {
-        depth,
-        weight: held_sum(HELD_WEIGHT, weight, 1),
-    }
-}
 
-// The number of the type with these alternatives, added last where no row has them.
-pub(crate) fn intern_row(
-    rows: &mut Vec<Row>,
-    all: &mut Vec<TyBasic>,
-    new: &[TyBasic],
-    pool: &[usize],
-) -> usize
-    requires laid { Laid pool.now all.old.items rows.old.items }
-    requires new { each (pooled (length pool.now)) new.now ≡ true }
-    requires stand { below (vec_len rows.old) (alts pool.now new.now) ≡ true }
-    requires rows_room { vec_len rows.old < vec_capacity rows.old }
-    requires all_room { vec_len all.old + length new.now ≤ vec_capacity all.old }
-    ensures grew { Grew pool.now all.old.items all.new.items rows.old.items rows.new.items }
-    ensures grows { grown (table pool.now all.new.items rows.new.items) result ≡ intern (table pool.now all.old.items rows.old.items) (alts pool.now new.now) }
-    ensures rows_room { (vec_len rows.new ≤ vec_len rows.old + 1) × (vec_capacity rows.new ≡ vec_capacity rows.old) }
-    ensures all_room { (vec_len all.new ≤ vec_len all.old + length new.now) × (vec_capacity all.new ≡ vec_capacity all.old) }
-{
-    if let Some(n) = find_row(rows.as_slice(), all.as_slice(), new, pool) {
-        return n;
+    // The alternatives of the type `t`.
+    pub(crate) fn alternatives(&self, t: usize) -> &[TyBasic]
+        ensures are { alts (pool_in self.now) result.now ≡ (row (table_of self.now) t).alts }
+        ensures pooled { each (pooled (length (pool_in self.now))) result.now ≡ true }
+    {
+        match self.rows.as_slice().get(t) {
+            Some(row) => &self.all[row.start..row.end],
+            None => &[],
+        }
     }
-    let size = row_size(rows.as_slice(), all.as_slice(), new, pool);
-    let n = rows.len();
-    let start = all.len();
-    append(all, new);
-    let end = all.len();
-    rows.push_reserved(Row {
-        start,
-        end,
-        depth: size.depth,
-        weight: size.weight,
-    });
-    n
-}
 
-// Two types joined, with no limit: the number of the union. Its places are reserved, so that it can't fail.
-pub(crate) fn join_rows(
-    rows: &mut Vec<Row>,
-    all: &mut Vec<TyBasic>,
-    scratch: &mut Vec<TyBasic>,
-    pool: &[usize],
-    a: usize,
-    b: usize,
-) -> usize
-    requires laid { Laid pool.now all.old.items rows.old.items }
-    requires kept { Kept (table pool.now all.old.items rows.old.items) }
-    requires a_within { a < vec_len rows.old }
-    requires b_within { b < vec_len rows.old }
-    requires room { Room (table pool.now all.old.items rows.old.items) a b (places (vec_len rows.old) (vec_capacity rows.old) (vec_len all.old) (vec_capacity all.old) (vec_capacity scratch.old)) }
-    ensures grew { Grew pool.now all.old.items all.new.items rows.old.items rows.new.items }
-    ensures joins { Joined (table pool.now all.old.items rows.old.items) (table pool.now all.new.items rows.new.items) a b result }
-    ensures taken { Taken (table pool.now all.old.items rows.old.items) a b (places (vec_len rows.old) (vec_capacity rows.old) (vec_len all.old) (vec_capacity all.old) (vec_capacity scratch.old)) (places (vec_len rows.new) (vec_capacity rows.new) (vec_len all.new) (vec_capacity all.new) (vec_capacity scratch.new)) }
-{
-    if a == 1 || b == 1 {
-        return 1;
+    // The number of the type with these alternatives.
+    fn find(&self, new: &[TyBasic]) -> Option<usize>
+        requires { each (pooled (length (pool_in self.now))) new.now ≡ true }
+        ensures { result ≡ find 0 (table_of self.now) (alts (pool_in self.now) new.now) }
+    {
+        (0..self.count()).find(|t| same(self.alternatives(*t), new, self.pool.as_slice()))
     }
-    if a == b || b == 0 {
-        return a;
+
+    // The depth of the deepest of these types.
+    fn deepest(&self, parts: &[usize]) -> usize
+        ensures { result ≡ deepest (table_of self.now) parts.now }
+    {
+        parts
+            .iter()
+            .fold(0, |depth, p| depth.max(self.row(*p).depth))
     }
-    if a == 0 {
-        return b;
+
+    // What these types weigh together, held just past the limit.
+    fn total(&self, parts: &[usize]) -> usize
+        ensures { result ≡ min 4097 (total (table_of self.now) parts.now) }
+    {
+        parts.iter().fold(
+            0,
+            |weight, p| held_sum(HELD_WEIGHT, weight, self.row(*p).weight),
+        )
     }
-    let x = inner_parts(alternatives_of(all.as_slice(), rows[a]));
-    let y = inner_parts(alternatives_of(all.as_slice(), rows[b]));
-    let item = join_rows(rows, all, scratch, pool, x.item, y.item);
-    let key = join_rows(rows, all, scratch, pool, x.key, y.key);
-    let value = join_rows(rows, all, scratch, pool, x.value, y.value);
-    let joined = Inner { item, key, value };
-    unite(
-        scratch,
-        alternatives_of(all.as_slice(), rows[a]),
-        alternatives_of(all.as_slice(), rows[b]),
-        joined,
-        pool,
-    );
-    intern_row(rows, all, scratch.as_slice(), pool)
+
+    // The size of an alternative of these parts: 1 deeper than the deepest, and as heavy as all of them and 1.
+    pub(crate) fn size_of_parts(&self, first: &[usize], second: &[usize]) -> Size
+        ensures depth { result.depth ≡ min 33 (1 + deepest (table_of self.now) (first.now ++ second.now)) }
+        ensures weight { result.weight ≡ min 4097 (1 + total (table_of self.now) (first.now ++ second.now)) }
+    {
+        let depth = self.deepest(first).max(self.deepest(second));
+        let weight = held_sum(HELD_WEIGHT, self.total(first), self.total(second));
+        Size {
+            depth: held_sum(HELD_DEPTH, 1, depth),
+            weight: held_sum(HELD_WEIGHT, 1, weight),
+        }
+    }
+
+    // The size of the type with these alternatives.
+    fn size(&self, new: &[TyBasic]) -> Size
+        requires { each (pooled (length (pool_in self.now))) new.now ≡ true }
+        ensures depth { result.depth ≡ (made_row (table_of self.now) (alts (pool_in self.now) new.now)).deep }
+        ensures weight { result.weight ≡ (made_row (table_of self.now) (alts (pool_in self.now) new.now)).heavy }
+    {
+        let mut depth: usize = 1;
+        let mut weight: usize = 0;
+        for x in new {
+            let (first, second) = x.parts(self.pool.as_slice());
+            let size = self.size_of_parts(first, second);
+            depth = depth.max(size.depth);
+            weight = held_sum(HELD_WEIGHT, weight, size.weight);
+        }
+        if new.len() == 1 {
+            return Size { depth, weight };
+        }
+        Size {
+            depth,
+            weight: held_sum(HELD_WEIGHT, weight, 1),
+        }
+    }
+
+    // The number of the type with these alternatives, added last where no row has them.
+    pub(crate) fn intern(&mut self, new: &[TyBasic]) -> usize
+        requires new { each (pooled (length (pool_in self.old))) new.now ≡ true }
+        requires rows_room { vec_len self.old.rows < vec_capacity self.old.rows }
+        requires all_room { vec_len self.old.all + length new.now ≤ vec_capacity self.old.all }
+        ensures grew { Grew self.old self.new }
+        ensures grows { grown (table_of self.new) result ≡ intern (table_of self.old) (alts (pool_in self.old) new.now) }
+        ensures rows_room { (vec_len self.new.rows ≤ vec_len self.old.rows + 1) × (vec_capacity self.new.rows ≡ vec_capacity self.old.rows) }
+        ensures all_room { (vec_len self.new.all ≤ vec_len self.old.all + length new.now) × (vec_capacity self.new.all ≡ vec_capacity self.old.all) }
+    {
+        if let Some(n) = self.find(new) {
+            return n;
+        }
+        let size = self.size(new);
+        let n = self.rows.len();
+        let start = self.all.len();
+        append(&mut self.all, new);
+        let end = self.all.len();
+        self.rows.push_reserved(Row {
+            start,
+            end,
+            depth: size.depth,
+            weight: size.weight,
+        });
+        n
+    }
+
+    // Two types joined, with no limit: the number of the union. Its places are reserved, so that it can't fail.
+    pub(crate) fn join(&mut self, scratch: &mut Vec<TyBasic>, a: usize, b: usize) -> usize
+        requires kept { Kept (table_of self.old) }
+        requires a_within { a < length (table_of self.old) }
+        requires b_within { b < length (table_of self.old) }
+        requires room { Room (table_of self.old) a b (held self.old scratch.old) }
+        ensures grew { Grew self.old self.new }
+        ensures joins { Joined (table_of self.old) (table_of self.new) a b result }
+        ensures taken { Taken (table_of self.old) a b (held self.old scratch.old) (held self.new scratch.new) }
+    {
+        if a == 1 || b == 1 {
+            return 1;
+        }
+        if a == b || b == 0 {
+            return a;
+        }
+        if a == 0 {
+            return b;
+        }
+        let x = inner_parts(self.alternatives(a));
+        let y = inner_parts(self.alternatives(b));
+        let item = self.join(scratch, x.item, y.item);
+        let key = self.join(scratch, x.key, y.key);
+        let value = self.join(scratch, x.value, y.value);
+        let joined = Inner { item, key, value };
+        unite(
+            scratch,
+            self.alternatives(a),
+            self.alternatives(b),
+            joined,
+            self.pool.as_slice(),
+        );
+        self.intern(scratch.as_slice())
+    }
 }

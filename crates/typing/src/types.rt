@@ -7,24 +7,30 @@ ghost use Rattle.typing.specs.Making.{rows_room, all_room, scratch_room, pool_ro
 use crate::basic::TyBasic;
 use crate::rows::Row;
 
-// The rows, the alternatives of all rows, the elements of fixed tuples, and the alternatives of a type that is being made.
+// The rows, the alternatives of all rows, and the elements of fixed tuples.
 #[derive(Drop)]
-pub struct Types {
+pub struct Rows {
     pub(crate) rows: Vec<Row>,
     pub(crate) all: Vec<TyBasic>,
     pub(crate) pool: Vec<usize>,
-    pub(crate) scratch: Vec<TyBasic>,
     ghost elements: { each (pooled (length pool.items)) all.items ≡ true },
     ghost alternatives: { each (placed (length all.items)) rows.items ≡ true },
-    ghost standing: { stands 0 (table pool.items all.items rows.items) ≡ true },
-    ghost forms: { each (λ r. formed r.alts) (table pool.items all.items rows.items) ≡ true },
-    ghost sizes: { each (sized (table pool.items all.items rows.items)) (table pool.items all.items rows.items) ≡ true },
-    ghost unique: { numbered (table pool.items all.items rows.items) 0 (table pool.items all.items rows.items) ≡ true },
-    ghost begun: { begins (table pool.items all.items rows.items) ≡ true },
-    ghost limited: { verdict (table pool.items all.items rows.items) ≡ 0 },
-    ghost packed: { length pool.items + length all.items ≤ all_places (table pool.items all.items rows.items) },
-    ghost forrows: { rows_room ≤ vec_capacity rows },
-    ghost forall: { all_room ≤ vec_capacity all },
+}
+
+// The rows, within the limits, and the alternatives of a type that is being made.
+#[derive(Drop)]
+pub struct Types {
+    pub(crate) rows: Rows,
+    pub(crate) scratch: Vec<TyBasic>,
+    ghost standing: { stands 0 (table rows.pool.items rows.all.items rows.rows.items) ≡ true },
+    ghost forms: { each (λ r. formed r.alts) (table rows.pool.items rows.all.items rows.rows.items) ≡ true },
+    ghost sizes: { each (sized (table rows.pool.items rows.all.items rows.rows.items)) (table rows.pool.items rows.all.items rows.rows.items) ≡ true },
+    ghost unique: { numbered (table rows.pool.items rows.all.items rows.rows.items) 0 (table rows.pool.items rows.all.items rows.rows.items) ≡ true },
+    ghost begun: { begins (table rows.pool.items rows.all.items rows.rows.items) ≡ true },
+    ghost limited: { verdict (table rows.pool.items rows.all.items rows.rows.items) ≡ 0 },
+    ghost packed: { length rows.pool.items + length rows.all.items ≤ all_places (table rows.pool.items rows.all.items rows.rows.items) },
+    ghost forrows: { rows_room ≤ vec_capacity rows.rows },
+    ghost forall: { all_room ≤ vec_capacity rows.all },
     ghost forscratch: { scratch_room ≤ vec_capacity scratch },
-    ghost forpool: { pool_room ≤ vec_capacity pool },
+    ghost forpool: { pool_room ≤ vec_capacity rows.pool },
 }

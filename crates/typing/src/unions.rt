@@ -1,28 +1,15 @@
-// Types of one alternative and unions of types, in reserved memory: no call lacks memory.
-ghost use Rattle.std.specs.Prelude.{◌≡◌, ◌+◌, ◌≤◌, true, [], ◌∷◌, length, vec_len, vec_capacity};
-ghost use Rattle.membership.specs.Rows.{union2, single, parts, all_below_lem, plainly};
-ghost use Rattle.typing.specs.View.{alt, table, pooled};
-ghost use Rattle.typing.specs.Making.{Ready, Done};
+// Types of one alternative, and the judgement of rows that grew, in reserved memory: no call lacks memory.
+ghost use Rattle.std.specs.Prelude.{◌≡◌, ◌+◌, ◌≤◌, true, [], ◌∷◌, ◌++◌, length, take, vec_capacity, MatchResult};
+ghost use Rattle.values.specs.Refusals.{number};
+ghost use Rattle.membership.specs.Rows.{single, parts, all_below_lem, plainly, verdict, each};
+ghost use Rattle.typing.specs.View.{alt, pooled, placed};
+ghost use Rattle.typing.specs.Held.{table_of, pool_in};
+ghost use Rattle.typing.specs.Growing.{Grew, Cut, Ready};
+ghost use Rattle.typing.specs.Outcomes.{Answered};
 
 use crate::basic::TyBasic;
-use crate::limits::first_refusal;
-use crate::rows::{Row, intern_row, join_rows};
+use crate::types::Rows;
 use values::refusal::Refusal;
-
-// Whether every part of `x` is numbered below `count`.
-pub(crate) fn parts_stand(x: TyBasic, count: usize, pool: &[usize]) -> bool
-    requires { pooled (length pool.now) x ≡ true }
-    ensures { result ≡ all_below_lem count (parts (alt pool.now x)) }
-{
-    let mut i = 0;
-    while let Some(p) = x.part(pool, i) {
-        if p >= count {
-            return false;
-        }
-        i += 1;
-    }
-    true
-}
 
 // A row of one alternative, where a place is reserved.
 fn row_of_one(row: &mut Vec<TyBasic>, x: TyBasic)
@@ -34,64 +21,56 @@ fn row_of_one(row: &mut Vec<TyBasic>, x: TyBasic)
     row.push_reserved(x);
 }
 
-// The type with one alternative. A refused call leaves the table as it was.
-pub(crate) fn make_single(
-    rows: &mut Vec<Row>,
-    all: &mut Vec<TyBasic>,
-    scratch: &mut Vec<TyBasic>,
-    pool: &[usize],
-    x: TyBasic,
-) -> Result<usize, Refusal>
-    requires ready { Ready pool.now all.old.items rows.old.items (vec_capacity rows.old) (vec_capacity all.old) (vec_capacity scratch.old) }
-    requires new { pooled (length pool.now) x ≡ true }
-    requires plainly { plainly (alt pool.now x) ≡ true }
-    ensures done { Done (single (table pool.now all.old.items rows.old.items) (alt pool.now x)) pool.now all.old.items all.new.items rows.old.items rows.new.items (vec_capacity rows.new) (vec_capacity all.new) (vec_capacity scratch.new) result }
-    ensures few { length all.new.items ≤ length all.old.items + 1 }
-{
-    let old = rows.len();
-    let below = all.len();
-    if !parts_stand(x, old, pool) {
-        return Err(Refusal::NoType);
+impl Rows {
+    // Whether all of these are numbers of types.
+    pub(crate) fn all_stand(&self, parts: &[usize]) -> bool
+        ensures { result ≡ all_below_lem (length (table_of self.now)) parts.now }
+    {
+        parts.iter().all(|p| *p < self.count())
     }
-    row_of_one(scratch, x);
-    let n = intern_row(rows, all, scratch.as_slice(), pool);
-    match first_refusal(rows.as_slice(), all.as_slice(), pool) {
-        None => Ok(n),
-        Some(refusal) => {
-            rows.truncate(old);
-            all.truncate(below);
-            Err(refusal)
-        }
-    }
-}
 
-// Two types joined. A refused call leaves the table as it was.
-pub(crate) fn make_union(
-    rows: &mut Vec<Row>,
-    all: &mut Vec<TyBasic>,
-    scratch: &mut Vec<TyBasic>,
-    pool: &[usize],
-    a: usize,
-    b: usize,
-) -> Result<usize, Refusal>
-    requires { Ready pool.now all.old.items rows.old.items (vec_capacity rows.old) (vec_capacity all.old) (vec_capacity scratch.old) }
-    ensures { Done (union2 (table pool.now all.old.items rows.old.items) a b) pool.now all.old.items all.new.items rows.old.items rows.new.items (vec_capacity rows.new) (vec_capacity all.new) (vec_capacity scratch.new) result }
-{
-    let stood = rows.len();
-    let held = all.len();
-    if a >= stood {
-        return Err(Refusal::NoType);
+    fn parts_stand(&self, first: &[usize], second: &[usize]) -> bool
+        ensures { result ≡ all_below_lem (length (table_of self.now)) (first.now ++ second.now) }
+    {
+        self.all_stand(first) && self.all_stand(second)
     }
-    if b >= stood {
-        return Err(Refusal::NoType);
-    }
-    let n = join_rows(rows, all, scratch, pool, a, b);
-    match first_refusal(rows.as_slice(), all.as_slice(), pool) {
-        None => Ok(n),
-        Some(refusal) => {
-            rows.truncate(stood);
-            all.truncate(held);
-            Err(refusal)
+
+    // Keeps the rows that meet the limits, or else cuts them back to those that stood.
+    pub(crate) fn judge(&mut self, stood: usize, filled: usize) -> Result<(), Refusal>
+        requires { each (placed filled) (take stood self.old.rows.items) ≡ true }
+        ensures { MatchResult result (λ _. (self.new ≡ self.old) × (verdict (table_of self.old) ≡ 0)) (λ f. Cut self.old self.new stood filled × (number f ≡ verdict (table_of self.old))) }
+    {
+        let answer = self.first_refusal();
+        if answer.is_err() {
+            self.rows.truncate(stood);
+            self.all.truncate(filled);
         }
+        answer
+    }
+
+    // The type with one alternative. A refused call leaves the table as it was.
+    pub(crate) fn single(
+        &mut self,
+        scratch: &mut Vec<TyBasic>,
+        x: TyBasic,
+    ) -> Result<usize, Refusal>
+        requires ready { Ready self.old scratch.old }
+        requires new { pooled (length (pool_in self.old)) x ≡ true }
+        requires plainly { plainly (alt (pool_in self.old) x) ≡ true }
+        ensures ready { Ready self.new scratch.new }
+        ensures grew { Grew self.old self.new }
+        ensures answers { Answered (single (table_of self.old) (alt (pool_in self.old) x)) (table_of self.old) (table_of self.new) result }
+        ensures few { length self.new.all.items ≤ length self.old.all.items + 1 }
+    {
+        let stood = self.count();
+        let filled = self.all.len();
+        let (first, second) = x.parts(self.pool.as_slice());
+        if !self.parts_stand(first, second) {
+            return Err(Refusal::NoType);
+        }
+        row_of_one(scratch, x);
+        let n = self.intern(scratch.as_slice());
+        self.judge(stood, filled)?;
+        Ok(n)
     }
 }
