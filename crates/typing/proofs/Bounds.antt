@@ -1,6 +1,6 @@
 -- Whole lists tested and added up. Assumes nothing.
-use Rattle.std.proofs.Common.{◌≡◌, ℕ, zero, suc, ◌+◌, ◌-◌, ◌<◌, ◌≤◌, min, max, Bool, true, false, cond, ◌&&◌, ◌||◌, leb, ltb, ◌⊎◌, List, [], ◌∷◌, ◌++◌, map, fold, length, drop, Some, None, Option, sym, refl, ap, ◌∙◌, ap₂, inl, inr, arith, lt-ltb, le-ltb}
-use Rattle.std.proofs.lemmas.List.{drop_all, drop_more, length-map}
+use Rattle.std.proofs.Common.{◌≡◌, ℕ, zero, suc, ◌+◌, ◌<◌, ◌≤◌, min, max, Bool, true, false, cond, ◌&&◌, ◌||◌, ltb, ◌⊎◌, List, [], ◌∷◌, ◌++◌, map, fold, length, drop, Some, Option, sym, refl, ap, ◌∙◌, ap₂, inl, inr, arith, lt-ltb, le-ltb}
+use Rattle.std.proofs.lemmas.List.{drop_all, drop_more}
 use Rattle.std.proofs.lemmas.Bool.{and_parts}
 use Rattle.std.proofs.lemmas.Bool.Decides.{nat_tests}
 use Rattle.std.specs.List.{list_any, list_all, range_with_len}

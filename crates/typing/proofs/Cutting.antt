@@ -1,11 +1,11 @@
 -- Rows that grew, judged: kept, or cut back to what stood. Assumes nothing.
-use Rattle.std.proofs.Common.{◌≡◌, ℕ, ◌≤◌, true, cond, eqb, ltb, List, length, take, vec_items, vec_len, vec_capacity, Ok, Err, Result, MatchResult, sym, refl, ap, ◌∙◌, subst, ap₂, arith}
+use Rattle.std.proofs.Common.{◌≡◌, ℕ, ◌≤◌, true, cond, eqb, ltb, List, length, take, vec_items, vec_len, vec_capacity, Ok, Err, Result, MatchResult, sym, ap, ◌∙◌, subst, ap₂, arith}
 use Rattle.std.proofs.lemmas.Bool.{ltb-false, or_parts}
 use Rattle.std.proofs.lemmas.List.{length-map}
 use Rattle.values.specs.Refusals.{number}
 use Rattle.values.specs.declared.refusal.Refusal.{Refusal}
 use Rattle.values.specs.declared.refusal.Refusal.TheVariants.{NoType, NoNode, NoValue, BadForm, Frozen, NoItem, TooDeep, TooWide, TooHeavy, NoRoom}
-use Rattle.membership.specs.Rows.{Row, all_places, verdict, Grown, grown, judged, granted, refused, Outcome, Kept, Sound, each}
+use Rattle.membership.specs.Rows.{Row, all_places, verdict, Grown, judged, granted, refused, Kept, Sound, each}
 use Rattle.membership.proofs.Measured.{limits_of}
 use Rattle.typing.specs.View.{table, row_of, placed}
 use Rattle.typing.specs.Held.{table_of, pool_in}

@@ -1,5 +1,5 @@
 -- What a join knows, call by call, where its places are reserved. Assumes nothing.
-use Rattle.std.proofs.Common.{◌≡◌, ℕ, ◌+◌, ◌<◌, ◌≤◌, true, List, [], ◌∷◌, length, vec_items, vec_len, vec_capacity, Vec, sym, refl, ap, ◌∙◌, subst, ap₂, arith}
+use Rattle.std.proofs.Common.{◌≡◌, ℕ, ◌+◌, ◌<◌, ◌≤◌, true, List, [], length, vec_items, vec_len, vec_capacity, Vec, sym, refl, ap, ◌∙◌, subst, ap₂, arith}
 use Rattle.std.proofs.lemmas.List.{length-map}
 use Rattle.std.specs.declared.alloc.Global.{Global}
 use Rattle.membership.specs.Rows.{Alt, Row, row, Inner, inner, no_inner, put_settled_lem, Grown, grown, intern, Joined, Keeps, Kept, below, each}

@@ -1,4 +1,4 @@
-pub mod Words
+pub mod Comparing
 pub mod Walks
 pub mod Bounds
 pub mod Sizes

@@ -1,44 +1,17 @@
 -- Lists read place by place. Assumes nothing.
-use Rattle.std.proofs.Common.{◌≡◌, ℕ, zero, suc, ◌+◌, ◌-◌, ◌<◌, ◌≤◌, max, Bool, true, false, cond, ◌&&◌, leb, List, [], ◌∷◌, ◌++◌, length, get_or, take, drop, Some, None, Ordering, Less, Equal, Greater, sym, refl, ap, ◌∙◌, subst, arith}
+use Rattle.std.proofs.Common.{◌≡◌, ℕ, zero, suc, ◌+◌, ◌-◌, ◌<◌, ◌≤◌, Bool, true, false, ◌&&◌, leb, List, [], ◌∷◌, ◌++◌, length, get_or, take, drop, Ordering, Less, Equal, Greater, sym, refl, ap, ◌∙◌, subst, arith}
 use Rattle.std.proofs.lemmas.List.{get_or_default, drop_more, take_more, map-append, take-append-drop, append_assoc}
-use Rattle.std.proofs.lemmas.Option.{slice_get_read, slice_get_past}
-use Rattle.std.proofs.lemmas.List.Edits.{length-between, get_or-between}
+use Rattle.std.proofs.lemmas.List.Edits.{length-between}
 use Rattle.std.proofs.lemmas.Bool.Decides.{nat_tests}
 use Rattle.std.proofs.lemmas.Bool.{and_parts, and_from, leb-true}
-use Rattle.std.specs.List.{between, insert, slice_get}
+use Rattle.std.specs.List.{between, insert, list_all, zip}
 use Rattle.std.specs.Ordering.{is_eq}
-use Rattle.membership.specs.Rows.{Alt, numbers, parts, elements, same_alts, compared, find, put, put_by, put_settled_lem, settle, Inner, inner, with_part, each}
+use Rattle.membership.specs.Rows.{Alt, elements, same_alts, compared, put, put_by, put_settled_lem, settle, Inner, inner, with_part, each}
 use Rattle.membership.proofs.Eachs.{each_at}
-use Rattle.typing.specs.View.{alt, alts, pooled, table}
+use Rattle.typing.specs.View.{alt, alts, pooled}
 use Rattle.typing.specs.declared.basic.TyBasic.{TyBasic}
 use Rattle.typing.specs.declared.basic.TyBasic.TheVariants as basic
-use Rattle.typing.specs.declared.basic.TyTuple.TheVariants.{Elems, Of}
-use Rattle.typing.specs.declared.rows.Row.{Row as CodeRow}
-
--- the pool
-pub pool_some : (pool : List ℕ) (from to i : ℕ) → (leb from to && leb to (length pool)) ≡ true → i < to - from → Some (get_or pool (from + i) 0) ≡ slice_get (between from to pool) i
-pool_some pool from to i h l =
-    let a = and_parts (leb from to) (leb to (length pool)) h in
-    let p : from ≤ to = leb-true from to a.0 in
-    let q : to ≤ length pool = leb-true to (length pool) a.1 in
-    let n = length-between pool from to q in
-    let g : get_or (between from to pool) i 0 ≡ get_or pool (from + i) 0 = get_or-between pool from to i 0 (omega arith) in
-    let g' : get_or (between from to pool) i (get_or pool (from + i) 0) ≡ get_or pool (from + i) 0 = get_or-between pool from to i (get_or pool (from + i) 0) (omega arith) ∙ default in
-    sym (slice_get_read (between from to pool) (to - from) i (get_or pool (from + i) 0) (sym n) l (sym g'))
-  where
-    default : get_or pool (from + i) (get_or pool (from + i) 0) ≡ get_or pool (from + i) 0
-    default = same pool (from + i)
-      where
-        same : (xs : List ℕ) (k : ℕ) → get_or xs k (get_or xs k 0) ≡ get_or xs k 0
-        same [] k = refl
-        same (x ∷ xs) zero = refl
-        same (x ∷ xs) (suc k) = same xs k
-
-pub pool_none : (pool : List ℕ) (from to i : ℕ) → (leb from to && leb to (length pool)) ≡ true → to - from ≤ i → None ≡ slice_get (between from to pool) i
-pool_none pool from to i h l =
-    let a = and_parts (leb from to) (leb to (length pool)) h in
-    let q : to ≤ length pool = leb-true to (length pool) a.1 in
-    sym (slice_get_past (between from to pool) i (omega (arith, length-between pool from to q)))
+use Rattle.typing.specs.declared.basic.TyTuple.TheVariants.{Elems}
 
 pub pooled_at : {X : Type 0} (f : X → Bool) (xs : List X) (i : ℕ) (x : X) → each f xs ≡ true → i < length xs → x ≡ get_or xs i x → f x ≡ true
 pooled_at f xs i x h l e = subst (λ z. f z ≡ true) (sym e) (each_at f xs i x h l)
@@ -70,8 +43,11 @@ pub drop_read : {X : Type 0} (xs : List X) (i : ℕ) (x : X) → i < length xs �
 drop_read xs i x h e = drop_more xs i x h ∙ ap (λ y. y ∷ drop (i + 1) xs) (sym e)
 
 module _ (pool : List ℕ) where
-  pub same_more : (xs ys : List TyBasic) (i : ℕ) (x y : TyBasic) → i < length xs → i < length ys → x ≡ get_or xs i x → y ≡ get_or ys i y → same_alts (alts pool (drop i xs)) (alts pool (drop i ys)) ≡ (is_eq (compared (alt pool x) (alt pool y)) && same_alts (alts pool (drop (i + 1) xs)) (alts pool (drop (i + 1) ys)))
-  same_more xs ys i x y h k p q = rw (drop_read xs i x h p, drop_read ys i y k q) refl
+  pub same_zip : (xs ys : List TyBasic) → length xs ≡ length ys → list_all (λ p. is_eq (compared (alt pool p.0) (alt pool p.1))) (zip xs ys) ≡ same_alts (alts pool xs) (alts pool ys)
+  same_zip [] [] e = refl
+  same_zip [] (y ∷ ys) e = absurd (omega arith)
+  same_zip (x ∷ xs) [] e = absurd (omega arith)
+  same_zip (x ∷ xs) (y ∷ ys) e = ap (λ (b : Bool). is_eq (compared (alt pool x) (alt pool y)) && b) (same_zip xs ys (omega arith))
 
   pub same_length : (xs ys : List TyBasic) → (length xs ≡ length ys → ⊥) → same_alts (alts pool xs) (alts pool ys) ≡ false
   same_length [] [] h = absurd (h refl)
@@ -116,41 +92,6 @@ module _ (pool : List ℕ) where
 -- an element of plain values is read with a default
 pub read_plain : {X : Type 0} (xs : List X) (i : ℕ) (d : X) → i < length xs → get_or xs i d ≡ get_or xs i (get_or xs i d)
 read_plain xs i d l = get_or_default xs i d (get_or xs i d) l
-
-pub numbers_few : (pool : List ℕ) (x : TyBasic) → pooled (length pool) x ≡ true → length (numbers (alt pool x)) ≤ max 2 (length pool)
-numbers_few pool basic.Any h = omega arith
-numbers_few pool (basic.StarlarkValue n) h = omega arith
-numbers_few pool (basic.Iter t) h = omega arith
-numbers_few pool basic.Callable h = omega arith
-numbers_few pool basic.Type h = omega arith
-numbers_few pool (basic.List t) h = omega arith
-numbers_few pool (basic.Tuple (Elems from to)) h =
-    let a = and_parts (leb from to) (leb to (length pool)) h in
-    let q : to ≤ length pool = leb-true to (length pool) a.1 in
-    omega (arith, length-between pool from to q)
-numbers_few pool (basic.Tuple (Of t)) h = omega arith
-numbers_few pool (basic.Dict k v) h = omega arith
-numbers_few pool (basic.Custom n) h = omega arith
-numbers_few pool (basic.Set t) h = omega arith
-
-pub parts_few : (pool : List ℕ) (x : TyBasic) → pooled (length pool) x ≡ true → length (parts (alt pool x)) ≤ max 2 (length pool)
-parts_few pool basic.Any h = omega arith
-parts_few pool (basic.StarlarkValue n) h = omega arith
-parts_few pool (basic.Iter t) h = omega arith
-parts_few pool basic.Callable h = omega arith
-parts_few pool basic.Type h = omega arith
-parts_few pool (basic.List t) h = omega arith
-parts_few pool (basic.Tuple (Elems from to)) h =
-    let a = and_parts (leb from to) (leb to (length pool)) h in
-    let q : to ≤ length pool = leb-true to (length pool) a.1 in
-    omega (arith, length-between pool from to q)
-parts_few pool (basic.Tuple (Of t)) h = omega arith
-parts_few pool (basic.Dict k v) h = omega arith
-parts_few pool (basic.Custom n) h = omega arith
-parts_few pool (basic.Set t) h = omega arith
-
-pub find_more : (pool : List ℕ) (all : List TyBasic) (rows : List CodeRow) (xs : List Alt) (i : ℕ) (r : CodeRow) → i < length rows → r ≡ get_or rows i r → find i (table pool all (drop i rows)) xs ≡ cond (same_alts (alts pool (between r.start r.end all)) xs) (Some i) (find (i + 1) (table pool all (drop (i + 1) rows)) xs)
-find_more pool all rows xs i r h e = rw (drop_read rows i r h e) refl
 
 pub elements_are : (pool : List ℕ) (x : TyBasic) (from to : ℕ) → x ≡ basic.Tuple (Elems from to) → pooled (length pool) x ≡ true → to - from ≡ elements (alt pool x)
 elements_are pool x from to e h =

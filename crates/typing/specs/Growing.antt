@@ -1,5 +1,5 @@
 -- What holds of the rows before a call, and what it adds. Assumes nothing.
-use Rattle.std.specs.Prelude.{◌≡◌, ℕ, ◌+◌, ◌≤◌, List, length, take, Vec, vec_items, vec_len, vec_capacity}
+use Rattle.std.specs.Prelude.{◌≡◌, ℕ, ◌+◌, ◌≤◌, length, take, Vec, vec_items, vec_len, vec_capacity}
 use Rattle.std.specs.declared.alloc.Global.{Global}
 use Rattle.membership.specs.Rows.{all_places, Sound}
 use Rattle.typing.specs.Rooms.{Places, places}

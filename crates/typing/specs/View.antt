@@ -1,5 +1,5 @@
 -- The alternatives and the rows that the code holds, as plain lists. Assumes nothing.
-use Rattle.std.specs.Prelude.{◌≡◌, ℕ, ◌-◌, Bool, true, ◌&&◌, List, map, length, nat_le}
+use Rattle.std.specs.Prelude.{◌≡◌, ℕ, ◌-◌, Bool, true, ◌&&◌, List, [], ◌∷◌, map, length, nat_le}
 use Rattle.std.specs.List.{between}
 use Rattle.membership.specs.Rows.{Alt, any, plain, iter, callable, kind, list, tuple, tuple_of, dict, custom, set_of, each}
 use Rattle.membership.specs.Rows as theory
@@ -22,6 +22,48 @@ alt pool (basic.Tuple (Of t)) = tuple_of t
 alt pool (basic.Dict k v) = dict k v
 alt pool (basic.Custom n) = custom n
 alt pool (basic.Set t) = set_of t
+
+-- the number of a plain type or of a custom, or 0
+abbrev pub own_number : Alt → ℕ
+own_number any = 0
+own_number (plain n) = n
+own_number (iter t) = 0
+own_number callable = 0
+own_number kind = 0
+own_number (list t) = 0
+own_number (tuple ts) = 0
+own_number (tuple_of t) = 0
+own_number (dict k v) = 0
+own_number (custom n) = n
+own_number (set_of t) = 0
+
+-- its parts, but for the value of a dict
+abbrev pub first_parts : Alt → List ℕ
+first_parts any = []
+first_parts (plain n) = []
+first_parts (iter t) = t ∷ []
+first_parts callable = []
+first_parts kind = []
+first_parts (list t) = t ∷ []
+first_parts (tuple ts) = ts
+first_parts (tuple_of t) = t ∷ []
+first_parts (dict k v) = k ∷ []
+first_parts (custom n) = []
+first_parts (set_of t) = t ∷ []
+
+-- the value of a dict
+abbrev pub second_parts : Alt → List ℕ
+second_parts any = []
+second_parts (plain n) = []
+second_parts (iter t) = []
+second_parts callable = []
+second_parts kind = []
+second_parts (list t) = []
+second_parts (tuple ts) = []
+second_parts (tuple_of t) = []
+second_parts (dict k v) = v ∷ []
+second_parts (custom n) = []
+second_parts (set_of t) = []
 
 -- its elements stand among the first n of the pool
 abbrev pub pooled : ℕ → TyBasic → Bool

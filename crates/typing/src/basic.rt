@@ -1,9 +1,9 @@
 // The alternatives of a type and their order. The elements of fixed tuples stand in a pool.
 ghost use Rattle.std.specs.Prelude.{◌≡◌, ℕ, ◌+◌, ◌<◌, ◌≤◌, true, List, [], ◌∷◌, ◌++◌, length, take, drop, vec_len, vec_capacity, MatchResult};
-ghost use Rattle.std.specs.List.{slice_get};
-ghost use Rattle.membership.specs.Rows.{rank, numbers, parts, elements, compared, same_alts, put, put_settled_lem, settle, inner, no_inner, with_part, each, is_any};
+ghost use Rattle.std.specs.List.{between, slice_get};
+ghost use Rattle.membership.specs.Rows.{rank, parts, compared, same_alts, put, put_settled_lem, settle, inner, no_inner, with_part, each, is_any};
 ghost use Rattle.membership.specs.Readings.{elems, plain_alt};
-ghost use Rattle.typing.specs.View.{alt, alts, pooled, span, inner_of};
+ghost use Rattle.typing.specs.View.{alt, alts, pooled, span, own_number, first_parts, second_parts, inner_of};
 
 use std::cmp::Ordering;
 use std::slice;
@@ -30,23 +30,12 @@ pub enum TyBasic {
     Set(usize),
 }
 
-// The list of one number, at `i`.
-fn only(x: usize, i: usize) -> Option<usize>
-    ensures { result ≡ slice_get (x ∷ []) i }
+// The numbers of the pool from one place to another; none stand past its end.
+fn stretch(pool: &[usize], from: usize, to: usize) -> &[usize]
+    ensures { result.now ≡ between from to pool.now }
 {
-    if i == 0 { Some(x) } else { None }
-}
-
-// The number at `i` of those of the pool from one place to another.
-fn pool_number(pool: &[usize], from: usize, to: usize, i: usize) -> Option<usize>
-    requires { pooled (length pool.now) (TyBasic.Tuple (TyTuple.Elems from to)) ≡ true }
-    ensures { result ≡ slice_get (numbers (alt pool.now (TyBasic.Tuple (TyTuple.Elems from to)))) i }
-{
-    if i < to - from {
-        Some(pool[from + i])
-    } else {
-        None
-    }
+    let end = to.min(pool.len());
+    &pool[from.min(end)..end]
 }
 
 impl TyBasic {
@@ -69,34 +58,28 @@ impl TyBasic {
         }
     }
 
-    // The number at `i` of those that decide within the kind.
-    pub(crate) fn number(&self, pool: &[usize], i: usize) -> Option<usize>
-        requires { pooled (length pool.now) self.now ≡ true }
-        ensures { result ≡ slice_get (numbers (alt pool.now self.now)) i }
+    // The number of a plain type or of a custom, or 0.
+    pub(crate) fn number(&self) -> u16
+        ensures { (pool : List ℕ) → result ≡ own_number (alt pool self.now) }
     {
         match self {
-            TyBasic::StarlarkValue(n) | TyBasic::Custom(n) => only(usize::from(*n), i),
-            TyBasic::Iter(t)
-            | TyBasic::List(t)
-            | TyBasic::Set(t)
-            | TyBasic::Tuple(TyTuple::Of(t)) => only(*t, i),
-            TyBasic::Tuple(TyTuple::Elems(from, to)) => pool_number(pool, *from, *to, i),
-            TyBasic::Dict(k, v) => { if i == 0 { Some(*k) } else { only(*v, i - 1) } }
-            TyBasic::Any | TyBasic::Callable | TyBasic::Type => None,
+            TyBasic::StarlarkValue(n) | TyBasic::Custom(n) => *n,
+            _ => 0,
         }
     }
 
     // The numbers of the types that the alternative is made of. The key and the value of a dict don't stand side by side.
     pub(crate) fn parts<'a>(&'a self, pool: &'a [usize]) -> (&'a [usize], &'a [usize])
-        requires { pooled (length pool.now) self.now ≡ true }
-        ensures { result.0.now ++ result.1.now ≡ parts (alt pool.now self.now) }
+        ensures first { result.0.now ≡ first_parts (alt pool.now self.now) }
+        ensures second { result.1.now ≡ second_parts (alt pool.now self.now) }
+        ensures all { result.0.now ++ result.1.now ≡ parts (alt pool.now self.now) }
     {
         match self {
             TyBasic::Iter(t)
             | TyBasic::List(t)
             | TyBasic::Set(t)
             | TyBasic::Tuple(TyTuple::Of(t)) => (slice::from_ref(t), &[]),
-            TyBasic::Tuple(TyTuple::Elems(from, to)) => (&pool[*from..*to], &[]),
+            TyBasic::Tuple(TyTuple::Elems(from, to)) => (stretch(pool, *from, *to), &[]),
             TyBasic::Dict(k, v) => (slice::from_ref(k), slice::from_ref(v)),
             _ => (&[], &[]),
         }
@@ -114,37 +97,18 @@ impl TyBasic {
 
     // The element `j` of a fixed tuple.
     pub(crate) fn element(&self, pool: &[usize], j: usize) -> Option<usize>
-        requires { pooled (length pool.now) self.now ≡ true }
         ensures { result ≡ slice_get (elems (alt pool.now self.now)) j }
     {
         match self {
-            TyBasic::Tuple(TyTuple::Elems(from, to)) => pool_number(pool, *from, *to, j),
-            TyBasic::Any
-            | TyBasic::StarlarkValue(_)
-            | TyBasic::Iter(_)
-            | TyBasic::Callable
-            | TyBasic::Type => None,
-            TyBasic::List(_)
-            | TyBasic::Tuple(TyTuple::Of(_))
-            | TyBasic::Dict(_, _)
-            | TyBasic::Custom(_)
-            | TyBasic::Set(_) => None,
+            TyBasic::Tuple(TyTuple::Elems(from, to)) => stretch(pool, *from, *to).get(j).copied(),
+            _ => None,
         }
     }
 
     pub(crate) fn is_any(&self) -> bool
         ensures { (pool : List ℕ) → result ≡ is_any (alt pool self.now) }
     {
-        match self {
-            TyBasic::Any => true,
-            TyBasic::StarlarkValue(_)
-            | TyBasic::Iter(_)
-            | TyBasic::Callable
-            | TyBasic::Type
-            | TyBasic::List(_) => false,
-            TyBasic::Tuple(TyTuple::Elems(_, _)) | TyBasic::Tuple(TyTuple::Of(_)) => false,
-            TyBasic::Dict(_, _) | TyBasic::Custom(_) | TyBasic::Set(_) => false,
-        }
+        matches!(self, TyBasic::Any)
     }
 
     // The type number of a plain type.
@@ -153,47 +117,21 @@ impl TyBasic {
     {
         match self {
             TyBasic::StarlarkValue(n) => Some(*n),
-            TyBasic::Any
-            | TyBasic::Iter(_)
-            | TyBasic::Callable
-            | TyBasic::Type
-            | TyBasic::List(_) => None,
-            TyBasic::Tuple(TyTuple::Elems(_, _)) | TyBasic::Tuple(TyTuple::Of(_)) => None,
-            TyBasic::Dict(_, _) | TyBasic::Custom(_) | TyBasic::Set(_) => None,
+            _ => None,
         }
     }
 
     // The order of alternatives: the kind, then the numbers as slices are compared.
     pub(crate) fn compare(&self, other: &TyBasic, pool: &[usize]) -> Ordering
-        requires mine { pooled (length pool.now) self.now ≡ true }
-        requires others { pooled (length pool.now) other.now ≡ true }
         ensures { result ≡ compared (alt pool.now self.now) (alt pool.now other.now) }
     {
-        let mine = self.rank();
-        let others = other.rank();
-        if mine < others {
-            return Ordering::Less;
-        }
-        if others < mine {
-            return Ordering::Greater;
-        }
-        let mut i = 0;
-        while let Some(x) = self.number(pool, i) {
-            let Some(y) = other.number(pool, i) else {
-                return Ordering::Greater;
-            };
-            if x < y {
-                return Ordering::Less;
-            }
-            if y < x {
-                return Ordering::Greater;
-            }
-            i += 1;
-        }
-        match other.number(pool, i) {
-            Some(_) => Ordering::Less,
-            None => Ordering::Equal,
-        }
+        let (a, b) = self.parts(pool);
+        let (c, d) = other.parts(pool);
+        self.rank()
+            .cmp(&other.rank())
+            .then(self.number().cmp(&other.number()))
+            .then(a.cmp(&c))
+            .then(b.cmp(&d))
     }
 }
 
@@ -204,6 +142,13 @@ pub struct Inner {
     pub key: usize,
     pub value: usize,
 }
+
+// Parts of neither a list nor a dict. Never is neutral in a join, so that no part needs to be an option.
+const NONE: Inner = Inner {
+    item: 0,
+    key: 0,
+    value: 0,
+};
 
 impl TyBasic {
     // A copy, with the joined item, key and value in place of its own.
@@ -240,29 +185,17 @@ impl TyBasic {
 
 // Whether two types have the same alternatives.
 pub(crate) fn same(a: &[TyBasic], b: &[TyBasic], pool: &[usize]) -> bool
-    requires left { each (pooled (length pool.now)) a.now ≡ true }
-    requires right { each (pooled (length pool.now)) b.now ≡ true }
     ensures { result ≡ same_alts (alts pool.now a.now) (alts pool.now b.now) }
 {
-    if a.len() != b.len() {
-        return false;
-    }
-    for i in 0..a.len() {
-        if a[i].compare(&b[i], pool).is_ne() {
-            return false;
-        }
-    }
-    true
+    a.len() == b.len() && a.iter().zip(b).all(|(x, y)| x.compare(y, pool).is_eq())
 }
 
-// Where `x` stands in a kept order, or the place to put it.
+// Where `x` stands in a kept order, or the place to put it, as a binary search answers.
 fn place(row: &[TyBasic], x: &TyBasic, pool: &[usize]) -> Result<usize, usize>
-    requires row { each (pooled (length pool.now)) row.now ≡ true }
-    requires new { pooled (length pool.now) x.now ≡ true }
     ensures { MatchResult result (λ _. put (alt pool.now x.now) (alts pool.now row.now) ≡ alts pool.now row.now) (λ i. (i ≤ length row.now) × (put (alt pool.now x.now) (alts pool.now row.now) ≡ alts pool.now (take i row.now) ++ alt pool.now x.now ∷ alts pool.now (drop i row.now))) }
 {
-    for i in 0..row.len() {
-        match x.compare(&row[i], pool) {
+    for (i, y) in row.iter().enumerate() {
+        match x.compare(y, pool) {
             Ordering::Less => return Err(i),
             Ordering::Equal => return Ok(i),
             Ordering::Greater => {}
@@ -290,11 +223,7 @@ pub(crate) fn put_once(row: &mut Vec<TyBasic>, x: TyBasic, pool: &[usize])
 pub(crate) fn inner_parts(alternatives: &[TyBasic]) -> Inner
     ensures { (pool : List ℕ) → inner_of result ≡ inner no_inner (alts pool alternatives.now) }
 {
-    let mut found = Inner {
-        item: 0,
-        key: 0,
-        value: 0,
-    };
+    let mut found = NONE;
     for x in alternatives {
         found = x.added_to(found);
     }

@@ -15,10 +15,9 @@ use values::refusal::Refusal;
 fn lone(alternatives: &[TyBasic]) -> Option<TyBasic>
     ensures { result ≡ only_of alternatives.now }
 {
-    if alternatives.len() == 1 {
-        Some(alternatives[0])
-    } else {
-        None
+    match alternatives {
+        [x] => Some(*x),
+        _ => None,
     }
 }
 
@@ -66,41 +65,27 @@ impl Types {
     pub fn basic(&self, t: usize, i: usize) -> Option<TyBasic>
         ensures { BasicAt (pool_of self.now) (row (rows_of self.now) t).alts i result }
     {
-        let alternatives = self.rows.alternatives(t);
-        if i < alternatives.len() {
-            Some(alternatives[i])
-        } else {
-            None
-        }
+        self.rows.alternatives(t).get(i).copied()
     }
 
     // The element `j` of the fixed tuple that is the alternative `i` of the type `t`.
     pub fn element(&self, t: usize, i: usize, j: usize) -> Option<usize>
         ensures { result ≡ slice_get (elems (alt_at (rows_of self.now) t i)) j }
     {
-        match self.basic(t, i) {
-            Some(x) => x.element(self.rows.pool.as_slice(), j),
-            None => None,
-        }
+        self.basic(t, i)?.element(self.rows.pool.as_slice(), j)
     }
 
     // Whether the type `t` is just Any.
     pub fn is_any(&self, t: usize) -> bool
         ensures { result ≡ just_any (row (rows_of self.now) t).alts }
     {
-        match lone(self.rows.alternatives(t)) {
-            Some(x) => x.is_any(),
-            None => false,
-        }
+        lone(self.rows.alternatives(t)).is_some_and(|x| x.is_any())
     }
 
     // The type number of the type `t`, where it is one plain type.
     pub fn is_starlark_value(&self, t: usize) -> Option<u16>
         ensures { result ≡ plain_of (row (rows_of self.now) t).alts }
     {
-        match lone(self.rows.alternatives(t)) {
-            Some(x) => x.plain_number(),
-            None => None,
-        }
+        lone(self.rows.alternatives(t))?.plain_number()
     }
 }

@@ -83,7 +83,6 @@ impl Rows {
 
     // The number of the type with these alternatives.
     fn find(&self, new: &[TyBasic]) -> Option<usize>
-        requires { each (pooled (length (pool_in self.now))) new.now ≡ true }
         ensures { result ≡ find 0 (table_of self.now) (alts (pool_in self.now) new.now) }
     {
         (0..self.count()).find(|t| same(self.alternatives(*t), new, self.pool.as_slice()))
@@ -123,7 +122,6 @@ impl Rows {
 
     // The size of the type with these alternatives.
     fn size(&self, new: &[TyBasic]) -> Size
-        requires { each (pooled (length (pool_in self.now))) new.now ≡ true }
         ensures depth { result.depth ≡ (made_row (table_of self.now) (alts (pool_in self.now) new.now)).deep }
         ensures weight { result.weight ≡ (made_row (table_of self.now) (alts (pool_in self.now) new.now)).heavy }
     {

@@ -1,16 +1,10 @@
 use Rattle.std.proofs.Common.{List, ◌++◌, length, get_or, take, sym, ap, ◌∙◌, arith}
 use Rattle.std.proofs.lemmas.List.{drop_all, take_all}
 use Rattle.membership.specs.Rows.{Alt}
-use Rattle.typing.specs.View.{alt, alts, pooled}
+use Rattle.typing.specs.View.{alt, alts}
 use Rattle.typing.specs.declared.basic.TyBasic.TheVariants.{Any}
-use Rattle.typing.proofs.Walks.{put_less, put_equal, put_more, alts_split, read_plain, pooled_at}
+use Rattle.typing.proofs.Walks.{put_less, put_equal, put_more, alts_split, read_plain}
 use Rattle.typing.proofs.basic.place.Goals as goal
-
-pub compare-requires : goal.compare-requires
-compare-requires c =
-    let row = c.args.row.now in
-    let i = c.loop-i.i in
-    record { mine = c.requires.new; others = pooled_at (pooled (length c.args.pool.now)) row i (get_or row i Any) c.requires.row c.loop-i-test.true (read_plain row i Any c.loop-i-test.true) }
 
 pub returns-in-Less : goal.returns-in-Less
 returns-in-Less c =

@@ -1,46 +1,22 @@
-use Rattle.std.proofs.Common.{◌<◌, length, get_or, sym, arith}
+use Rattle.std.proofs.Common.{rules, ◌≡◌, false, eqb, length, sym, ◌∙◌, arith}
+use borrow.Author.Tests.{tests}
 use Rattle.std.proofs.lemmas.Bool.Decides.{nat_tests}
-use Rattle.std.proofs.lemmas.List.{drop_all}
-use Rattle.typing.specs.View.{pooled}
-use Rattle.typing.specs.declared.basic.TyBasic.TheVariants.{Any}
-use Rattle.typing.proofs.Walks.{same_more, same_length, read_plain, pooled_at}
+use Rattle.std.proofs.lemmas.Iterator.{YieldsList-from_slice, YieldsList-from_zip}
+use Rattle.std.proofs.lemmas.Iterator.Search.{all_from_yields_List}
+use Rattle.std.specs.Ordering.{is_eq}
+use Rattle.membership.specs.Rows.{compared}
+use Rattle.typing.specs.View.{alt}
+use Rattle.typing.proofs.Walks.{same_length, same_zip}
 use Rattle.typing.proofs.basic.same.Goals as goal
 
 pub returns-then-a-b : goal.returns-then-a-b
-returns-then-a-b c = sym (same_length c.args.pool.now c.args.a.now c.args.b.now c.if-a-b.true)
-
-pub compare-requires : goal.compare-requires
-compare-requires c =
+returns-then-a-b c =
+    let pool = c.args.pool.now in
     let a = c.args.a.now in
     let b = c.args.b.now in
-    let i = c.loop-i.i in
-    let k : i < length b = omega arith in
-    let n = length c.args.pool.now in
-    record {
-      mine = pooled_at (pooled n) a i (get_or a i Any) c.requires.left c.loop-i-test.true (read_plain a i Any c.loop-i-test.true);
-      others = pooled_at (pooled n) b i (get_or b i Any) c.requires.right k (read_plain b i Any k);
-    }
+    all_from_yields_List (λ p. is_eq (compared (alt pool p.0) (alt pool p.1))) c.all.new.self _ _ c.all.ensures.ran (YieldsList-from_zip (YieldsList-from_slice a cc) (YieldsList-from_slice b cc)) (λ x b q k. search (rules, tests)) ∙ same_zip pool a b c.if-a-b.true
 
-pub returns-then-is_ne : goal.returns-then-is_ne
-returns-then-is_ne c =
-    let a = c.args.a.now in
-    let b = c.args.b.now in
-    let i = c.loop-i.i in
-    let k : i < length b = omega arith in
-    let s = same_more c.args.pool.now a b i (get_or a i Any) (get_or b i Any) c.loop-i-test.true k (read_plain a i Any c.loop-i-test.true) (read_plain b i Any k) in
-    grind (arith, nat_tests, s, c.compare.ensures, c.is_ne.ensures, c.if-is_ne.true, c.loop-i.invariant)
-
-pub loop-i-preserved : goal.loop-i-preserved
-loop-i-preserved c =
-    let a = c.args.a.now in
-    let b = c.args.b.now in
-    let i = c.loop-i.i in
-    let k : i < length b = omega arith in
-    let s = same_more c.args.pool.now a b i (get_or a i Any) (get_or b i Any) c.loop-i-test.true k (read_plain a i Any c.loop-i-test.true) (read_plain b i Any k) in
-    grind (arith, nat_tests, s, c.compare.ensures, c.is_ne.ensures, c.if-is_ne.false, c.loop-i.invariant)
-
-pub returns : goal.returns
-returns c =
-    let e = drop_all c.loop-i.i c.args.a.now c.loop-i-test.false in
-    let f = drop_all c.loop-i.i c.args.b.now (omega arith) in
-    rw (e, f) at c.loop-i.invariant
+pub returns-else-a-b : goal.returns-else-a-b
+returns-else-a-b c =
+    let e : eqb (length c.args.a.now) (length c.args.b.now) ≡ false = grind (arith, nat_tests, c.if-a-b.false) in
+    e ∙ sym (same_length c.args.pool.now c.args.a.now c.args.b.now c.if-a-b.false)

@@ -1,4 +1,4 @@
-use Rattle.std.proofs.Common.{ℕ, ◌<◌, length, ap, ◌∙◌, subst, arith}
+use Rattle.std.proofs.Common.{ℕ, ◌<◌, ap, ◌∙◌, subst, arith}
 use Rattle.membership.specs.Rows.{inner, no_inner}
 use Rattle.typing.specs.View.{inner_of}
 use Rattle.typing.specs.Held.{pool_in}

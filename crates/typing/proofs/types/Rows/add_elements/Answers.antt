@@ -3,7 +3,7 @@ use Rattle.std.proofs.lemmas.Bool.{cond-true}
 use Rattle.membership.specs.Rows.{each}
 use Rattle.typing.specs.View.{pooled}
 use Rattle.typing.specs.Held.{pool_in}
-use Rattle.typing.proofs.Tupling.{pooled_longer, whole_pooled, whole_is}
+use Rattle.typing.proofs.Tupling.{pooled_longer}
 use Rattle.typing.proofs.types.Rows.add_elements.Goals as goal
 
 pub invariant_of-self : goal.invariant_of-self

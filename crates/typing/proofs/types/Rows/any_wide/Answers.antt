@@ -1,4 +1,4 @@
-use Rattle.std.proofs.Common.{rules, length, refl, ◌∙◌, arith}
+use Rattle.std.proofs.Common.{rules, length, ◌∙◌, arith}
 use borrow.Author.Tests.{tests}
 use Rattle.std.proofs.lemmas.Iterator.{YieldsList-from_range}
 use Rattle.std.proofs.lemmas.Iterator.Search.{any_from_yields_List}

@@ -1,4 +1,4 @@
-use Rattle.std.proofs.Common.{◌≡◌, ◌+◌, length, Some, None, vec_items, refl, sym, ap, ◌∙◌, arith, length-append}
+use Rattle.std.proofs.Common.{length, refl, sym, ap, ◌∙◌, arith, length-append}
 use Rattle.typing.specs.View.{alts}
 use Rattle.typing.specs.Held.{table_of, pool_in}
 use Rattle.typing.specs.declared.rows.Row.{Row}

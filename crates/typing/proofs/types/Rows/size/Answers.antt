@@ -20,7 +20,7 @@ loop-x-preserved c =
     let i = c.loop-x.x-index in
     let y = get_or xs i Any in
     let e = read_plain xs i Any c.loop-x-test.true in
-    let whole = c.parts.ensures ∙ ap (λ (z : List ℕ). parts (alt z y)) c.as_slice.ensures.value in
+    let whole = c.parts.ensures.all ∙ ap (λ (z : List ℕ). parts (alt z y)) c.as_slice.ensures.value in
     let d = depth_step pool t xs i y c.loop-x-test.true e c.loop-x.depth c.max-depth.result c.size_of_parts-size.result.depth _
     (c.size_of_parts-size.ensures.depth ∙ ap (λ (ps : List ℕ). min 33 (1 + deepest t ps)) whole) c.max-depth.ensures c.loop-x.invariant.0 c.loop-x.invariant.1 c.loop-x.invariant.2 in
     let w = weight_step pool t xs i y c.loop-x-test.true e c.loop-x.weight c.held_sum-weight.result c.size_of_parts-size.result.weight _

@@ -1,4 +1,4 @@
-use Rattle.std.proofs.Common.{◌≡◌, ℕ, ◌≤◌, length, vec_capacity, sym, ap, ◌∙◌, arith}
+use Rattle.std.proofs.Common.{◌≡◌, ◌≤◌, length, vec_capacity, sym, ap, ◌∙◌, arith}
 use Rattle.typing.specs.Held.{table_of}
 use Rattle.typing.specs.Making.{pool_room}
 use Rattle.typing.specs.declared.basic.TyBasic.TheVariants.{Tuple}
