@@ -1,9 +1,8 @@
 -- One node more. Assumes nothing.
-use Rattle.std.proofs.Common.{◌≡◌, ℕ, zero, suc, ◌+◌, ◌<◌, ◌≤◌, Bool, true, false, cond, ◌&&◌, ◌||◌, ltb, leb, List, [], ◌∷◌, ◌++◌, length, get_or, Some, None, Ok, Err, sym, refl, ap, ◌∙◌, subst, append_assoc, append-nil, arith, length-append}
-use Rattle.std.proofs.lemmas.Bool.{and_parts, and_from, leb-true, le-leb, lt-leb, lt-ltb, le-ltb, or_from, or_right, or_left}
-use Rattle.values.specs.declared.refusal.Refusal.{Refusal}
-use Rattle.values.specs.declared.refusal.Refusal.TheVariants.{NoNode, BadForm, TooDeep, TooWide, NoRoom}
-use Rattle.matcher.specs.Nodes.{Node, find, same_node, place, allocated, settled, put, depths, depths_from, depth_over, all_below, formed, fault, is_granted, roomy, valid, valid_from, used, places, deepest, widest}
+use Rattle.std.proofs.Common.{◌≡◌, ℕ, zero, suc, ◌+◌, ◌<◌, ◌≤◌, Bool, true, false, cond, ◌&&◌, leb, List, [], ◌∷◌, ◌++◌, length, get_or, Some, None, sym, refl, ◌∙◌, subst, append_assoc, append-nil, arith, length-append}
+use Rattle.std.proofs.lemmas.Bool.{and_parts, and_from, leb-true, le-leb, lt-ltb, le-ltb}
+use Rattle.values.specs.declared.refusal.Refusal.TheVariants.{NoNode, BadForm, TooDeep, TooWide}
+use Rattle.matcher.specs.Nodes.{Node, find, same_node, place, put, depths, depths_from, depth_over, all_below, formed, fault, is_granted, roomy, valid, valid_from, used, places, deepest, widest}
 
 depths_push_from : (ds : List ℕ) (ns : List Node) (d : Node) → depths_from ds (ns ++ d ∷ []) ≡ depths_from ds ns ++ depth_over (depths_from ds ns) d.kids ∷ []
 depths_push_from ds [] d = refl

@@ -1,6 +1,7 @@
 -- What a store means: a list of nodes, and what alloc answers. Assumes nothing.
 use Rattle.std.specs.Prelude.{ℕ, suc, ◌+◌, max, Bool, true, false, cond, ◌&&◌, ◌||◌, List, [], ◌∷◌, ◌++◌, length, Some, None, Ok, Err, Option, Result, ◌==◌, nat_le, nat_lt, slice_index, slice_index_or}
 use Rattle.std.specs.Str.{bytes_eq}
+use Rattle.values.specs.Types.{type_numbered}
 use Rattle.values.specs.declared.refusal.Refusal.{Refusal}
 use Rattle.values.specs.declared.refusal.Refusal.TheVariants.{NoNode, BadForm, TooDeep, TooWide, NoRoom}
 use Rattle.matcher.specs.declared.kind.Kind.{Kind}
@@ -83,7 +84,7 @@ arity StarlarkTypeIdMatcher k = k == 0
 arity Custom k = k == 0
 
 abbrev pub plain_type_number : ℕ → Bool
-plain_type_number n = (nat_lt 0 n && nat_lt n 9) || nat_lt 15 n
+plain_type_number n = type_numbered n
 
 -- whether a kind may have such a number: a type number, a custom's number, else 0
 abbrev pub numbered : Kind → ℕ → Bool

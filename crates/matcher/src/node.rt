@@ -1,9 +1,10 @@
 // A node, as it is asked for and as a store answers it.
 ghost use Rattle.std.specs.Prelude.{◌≡◌, length};
-ghost use Rattle.matcher.specs.Nodes.{arity, numbered, plain_type_number, formed, all_below};
+ghost use Rattle.matcher.specs.Nodes.{arity, numbered, formed, all_below};
 ghost use Rattle.matcher.specs.Held.{meant};
 
 use crate::kind::Kind;
+use values::built_in::is_type_number;
 
 // A kind, a number and the numbers of the kids.
 #[derive(Clone, Copy, PartialEq, Eq, Debug)]
@@ -11,12 +12,6 @@ pub struct Node<'a> {
     pub kind: Kind,
     pub number: u16,
     pub kids: &'a [usize],
-}
-
-fn is_plain_number(number: u16) -> bool
-    ensures { result ≡ plain_type_number number }
-{
-    (number > 0) & (number < 9) | (number > 15)
 }
 
 impl Node<'_> {
@@ -36,7 +31,7 @@ impl Node<'_> {
         ensures { result ≡ numbered self.now.kind self.now.number }
     {
         match self.kind {
-            Kind::StarlarkTypeIdMatcher => is_plain_number(self.number),
+            Kind::StarlarkTypeIdMatcher => is_type_number(self.number),
             Kind::Custom => true,
             _ => self.number == 0,
         }

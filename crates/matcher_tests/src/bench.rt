@@ -63,7 +63,7 @@ pub(crate) fn tell(rt: HostRuntime, name: &str, r: Result<bool, Refusal>) -> any
 }
 
 fn refused(why: Refusal) -> anyhow::Error {
-    anyhow!("{why:?}")
+    anyhow!("refused {why}")
 }
 
 // 0 says yes to type 16 with mark 5, 1 is a wildcard, 2 says yes to the ints from 0 to 10.

@@ -1,8 +1,7 @@
-use Rattle.std.proofs.Common.{◌≡◌, ◌+◌, ◌≤◌, true, cond, [], ◌∷◌, ◌++◌, length, is_ok, vec_items, vec_len, sym, refl, ap, ◌∙◌, subst, arith}
-use Rattle.std.proofs.lemmas.Bool.{leb-true}
-use Rattle.matcher.specs.Nodes.{is_granted, valid, used, places}
+use Rattle.std.proofs.Common.{◌≡◌, ◌+◌, true, cond, [], ◌∷◌, ◌++◌, length, is_ok, vec_items, vec_len, sym, refl, ap, ◌∙◌, subst, arith}
+use Rattle.matcher.specs.Nodes.{is_granted, valid, used}
 use Rattle.matcher.specs.Held.{meant, nodes_in}
-use Rattle.matcher.specs.Tables.{nodes_of, spans, Deep}
+use Rattle.matcher.specs.Tables.{spans, Deep}
 use Rattle.matcher.specs.declared.rows.Row.{Row}
 use Rattle.matcher.proofs.Grows.{valid_push, used_push}
 use Rattle.matcher.proofs.Flats.{long, nodes_grow, spans_push, deep_push}
