@@ -12,6 +12,7 @@ use values::value::Value;
 // The most cells that a heap has.
 const MOST: usize = 65536;
 
+// A constant makes no call, so None's number stands here.
 const NONE: Head = Head {
     ty: 3,
     flags: 0,
