@@ -1,5 +1,5 @@
 -- The steps of the arguments' reader. Assumes nothing.
-use Rattle.std.proofs.Common.{◌≡◌, ℕ, List, [], ◌∷◌, ◌++◌, Some, None, Ok, Err, Result, Bor, sym, refl, ap, ◌∙◌, subst, inl, inr, append_assoc, append-nil, arith}
+use Rattle.std.proofs.Common.{◌≡◌, ℕ, List, [], ◌∷◌, ◌++◌, Some, None, Ok, Err, Result, Bor, sym, ap, ◌∙◌, subst, inl, inr, append_assoc, append-nil, arith}
 use Rattle.membership.specs.Rows.{Row}
 use Rattle.grammar.specs.declared.fault.Fault.{Fault}
 use Rattle.grammar.specs.declared.words.Class.TheVariants.{Bare, One, Two, Many, Dots}
@@ -21,7 +21,7 @@ use Rattle.annotation.specs.declared.fault.TextFault.{TextFault}
 use Rattle.annotation.specs.declared.fault.TextFault.TheVariants.{Outside}
 use Rattle.annotation.specs.declared.builders.Built.{Built}
 use Rattle.annotation.specs.declared.builders.Closed.{Closed}
-use Rattle.annotation.specs.Evaluated.{State, state, Came, on_made, text_comes}
+use Rattle.annotation.specs.Evaluated.{State, Came, on_made, text_comes}
 use Rattle.annotation.specs.Building.{at_byte, Args, shut, dots, final, further, args, args_come, Fails, TextBuilt, ArgsBuilt}
 use Rattle.annotation.proofs.Fronts.{apart, ahead_rest, token_is, Stands, right_token, comma_token, word_of_is, past_word, past_mark, fails_on, fails_as}
 

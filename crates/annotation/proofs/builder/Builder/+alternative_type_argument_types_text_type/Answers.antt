@@ -1,6 +1,5 @@
-use Rattle.std.proofs.Common.{ℕ, List, [], ◌∷◌, ◌++◌, Some, Bor, length, drop, vec_items, sym, refl, ap, ◌∙◌, subst, arith, length-append, rules}
+use Rattle.std.proofs.Common.{ℕ, List, [], ◌∷◌, ◌++◌, Some, Bor, length, drop, vec_items, sym, refl, ap, ◌∙◌, subst, arith, length-append}
 use Rattle.std.proofs.lemmas.Result.{err_from_is_err_and}
-use Rattle.std.proofs.lemmas.Bool.{true≢false}
 use Rattle.typing.specs.Held.{rows_of}
 use Rattle.grammar.specs.Items.{word, bar, left, right, comma}
 use Rattle.grammar.specs.Lexed.{Ahead, NextBy}
