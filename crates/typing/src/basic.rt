@@ -204,7 +204,8 @@ fn place(row: &[TyBasic], x: &TyBasic, pool: &[usize]) -> Result<usize, usize>
     Err(row.len())
 }
 
-// Puts an alternative into a kept order, once, where a place is reserved.
+// Puts an alternative into a kept order, once, where a place is reserved. The row is scratch memory and the pool the table's:
+// a struct of both would be made anew at each call, so that they stay two parameters.
 pub(crate) fn put_once(row: &mut Vec<TyBasic>, x: TyBasic, pool: &[usize])
     requires room { vec_len row.old < vec_capacity row.old }
     requires row { each (pooled (length pool.now)) row.old.items ≡ true }
