@@ -10,6 +10,7 @@ ghost use Rattle.annotation.specs.Building.{PlacedAs};
 use crate::fault::Placed;
 use grammar::words::Word;
 use typing::types::Types;
+use values::built_in::BuiltIn;
 use values::refusal::Refusal;
 
 // How a tuple's arguments are meant: these elements, or any number of the first one.
@@ -19,18 +20,10 @@ pub enum Form {
     Open,
 }
 
-// The numbers of the types that stand from the start, and of the plain types that have names.
+// The numbers of the types that stand from the start.
 const NEVER: usize = 0;
 
 const ANY: usize = 1;
-
-const INT: u16 = 1;
-
-const BOOL: u16 = 2;
-
-const NONE: u16 = 3;
-
-const STR: u16 = 4;
 
 // The argument `i`, or Any where it is not given.
 fn argument_or_any(arguments: &[usize], i: usize) -> usize
@@ -58,10 +51,10 @@ pub fn make(
     ensures { Answered (called word form arguments.now (rows_of types.old)) (rows_of types.old) (rows_of types.new) result }
 {
     match word {
-        Word::Int => types.starlark_value(INT),
-        Word::Boolean => types.starlark_value(BOOL),
-        Word::Str => types.starlark_value(STR),
-        Word::NoneType => types.starlark_value(NONE),
+        Word::Int => types.starlark_value(u16::from(BuiltIn::Int)),
+        Word::Boolean => types.starlark_value(u16::from(BuiltIn::Bool)),
+        Word::Str => types.starlark_value(u16::from(BuiltIn::Str)),
+        Word::NoneType => types.starlark_value(u16::from(BuiltIn::NoneType)),
         Word::Kind => types.type_of_types(),
         Word::Any => Ok(ANY),
         Word::Never => Ok(NEVER),

@@ -47,46 +47,30 @@ pub(crate) fn make_cells(heap: Global) -> Result<Vec<Call>, AllocError> {
     ]?)
 }
 
+fn put(value: usize, place: usize, part: usize) -> Call {
+    Call::Put {
+        value: Value(value),
+        place,
+        part: Value(part),
+    }
+}
+
 // Changes before and after a freeze, and a list that holds itself.
 pub(crate) fn check_cells(heap: Global) -> Result<Vec<Call>, AllocError> {
     Ok(vec![in heap;
-        Call::Put {
-            value: Value(4),
-            place: 0,
-            part: Value(3)
-        },
+        put(4, 0, 3),
         Call::Check(TypeCompiled(0), Value(4)),
         Call::Check(TypeCompiled(1), Value(4)),
-        Call::Put {
-            value: Value(1),
-            place: 0,
-            part: Value(2)
-        },
-        Call::Put {
-            value: Value(4),
-            place: 1,
-            part: Value(2)
-        },
+        put(1, 0, 2),
+        put(4, 1, 2),
         Call::New(head(8, 2, 0), vec![in heap; Value(2), Value(4)]?),
-        Call::Put {
-            value: Value(6),
-            place: 0,
-            part: Value(3)
-        },
+        put(6, 0, 3),
         Call::Freeze,
-        Call::Put {
-            value: Value(4),
-            place: 0,
-            part: Value(2)
-        },
+        put(4, 0, 2),
         Call::Check(TypeCompiled(0), Value(4)),
         Call::New(head(5, 2, 0), vec![in heap; Value(2)]?),
         Call::Check(TypeCompiled(0), Value(7)),
-        Call::Put {
-            value: Value(7),
-            place: 0,
-            part: Value(7)
-        },
+        put(7, 0, 7),
         Call::Check(TypeCompiled(0), Value(7)),
         Call::List(1),
         Call::List(8),

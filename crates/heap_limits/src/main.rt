@@ -19,6 +19,9 @@ use values::live::LiveHeap;
 use values::refusal::Refusal;
 use values::value::Value;
 
+// The flag of a list, a dict, a set and a tuple.
+const ITERABLE: u8 = 2;
+
 fn head(ty: u16, flags: u8, mark: i64) -> Head {
     Head { ty, flags, mark }
 }
@@ -27,14 +30,9 @@ fn int(mark: i64) -> Head {
     head(u16::from(BuiltIn::Int), 0, mark)
 }
 
-// None or a str.
-fn bare(ty: BuiltIn) -> Head {
-    head(u16::from(ty), 0, 0)
-}
-
-// A list, a dict, a set or a tuple.
-fn holder(ty: BuiltIn) -> Head {
-    head(u16::from(ty), 2, 0)
+// A value of a built-in type, without a mark.
+fn of(ty: BuiltIn, flags: u8) -> Head {
+    head(u16::from(ty), flags, 0)
 }
 
 // What a call answers, or its refusal.
@@ -56,7 +54,7 @@ fn many_cells(rt: HostRuntime, heap: Global) -> anyhow::Result<()> {
         let _ = live.new(int(i), &[]);
     }
     let last = shown(heap, live.new(int(255), &[]))?;
-    let next = shown(heap, live.new(bare(BuiltIn::NoneType), &[]))?;
+    let next = shown(heap, live.new(of(BuiltIn::NoneType, 0), &[]))?;
     let count = live.count();
     println!(rt; "cells: last {last}, next {next}, count {count}")?;
     Ok(())
@@ -65,14 +63,14 @@ fn many_cells(rt: HostRuntime, heap: Global) -> anyhow::Result<()> {
 // 2,048 own parts, and no 2,049th.
 fn many_parts(rt: HostRuntime, heap: Global) -> anyhow::Result<()> {
     let mut live = LiveHeap::over(heap, EmptyHeap)?;
-    let first = shown(heap, live.new(bare(BuiltIn::NoneType), &[]))?;
+    let first = shown(heap, live.new(of(BuiltIn::NoneType, 0), &[]))?;
     let parts = [Value(0); 512];
     for _ in 0..3 {
-        let _ = live.new(holder(BuiltIn::List), &parts);
+        let _ = live.new(of(BuiltIn::List, ITERABLE), &parts);
     }
-    let last = shown(heap, live.new(holder(BuiltIn::List), &parts))?;
-    let one = shown(heap, live.new(holder(BuiltIn::List), &[Value(0)]))?;
-    let empty = shown(heap, live.new(holder(BuiltIn::List), &[]))?;
+    let last = shown(heap, live.new(of(BuiltIn::List, ITERABLE), &parts))?;
+    let one = shown(heap, live.new(of(BuiltIn::List, ITERABLE), &[Value(0)]))?;
+    let empty = shown(heap, live.new(of(BuiltIn::List, ITERABLE), &[]))?;
     println!(rt; "parts: {first}, last {last}, one more {one}, none more {empty}")?;
     Ok(())
 }
@@ -84,8 +82,8 @@ fn over_many(rt: HostRuntime, heap: Global, below: usize) -> anyhow::Result<()> 
         return Ok(());
     };
     let mut live = LiveHeap::over(heap, nones)?;
-    let first = shown(heap, live.new(bare(BuiltIn::NoneType), &[]))?;
-    let second = shown(heap, live.new(bare(BuiltIn::NoneType), &[]))?;
+    let first = shown(heap, live.new(of(BuiltIn::NoneType, 0), &[]))?;
+    let second = shown(heap, live.new(of(BuiltIn::NoneType, 0), &[]))?;
     let count = live.count();
     println!(rt; "below: {below}, first {first}, second {second}, count {count}")?;
     Ok(())
@@ -94,13 +92,13 @@ fn over_many(rt: HostRuntime, heap: Global, below: usize) -> anyhow::Result<()> 
 // What `new` refuses: a part that does not stand first, then the form.
 fn forms(rt: HostRuntime, heap: Global) -> anyhow::Result<()> {
     let mut live = LiveHeap::over(heap, EmptyHeap)?;
-    let itself = shown(heap, live.new(holder(BuiltIn::List), &[Value(0)]))?;
+    let itself = shown(heap, live.new(of(BuiltIn::List, ITERABLE), &[Value(0)]))?;
     let both = shown(heap, live.new(head(9, 0, 0), &[Value(7)]))?;
     let nine = shown(heap, live.new(head(9, 0, 0), &[]))?;
     let big = shown(heap, live.new(head(1, 8, 0), &[]))?;
     let marked = shown(heap, live.new(head(1, 8, 1), &[]))?;
     let two = shown(heap, live.new(head(2, 0, 2), &[]))?;
-    let odd = shown(heap, live.new(holder(BuiltIn::Dict), &[Value(0)]))?;
+    let odd = shown(heap, live.new(of(BuiltIn::Dict, ITERABLE), &[Value(0)]))?;
     let host = shown(heap, live.new(head(16, 7, -1), &[]))?;
     let flagged = shown(heap, live.new(head(16, 8, 0), &[]))?;
     println!(rt;
@@ -112,11 +110,14 @@ fn forms(rt: HostRuntime, heap: Global) -> anyhow::Result<()> {
 // What `put` does and refuses, before and after `freeze`.
 fn puts(rt: HostRuntime, heap: Global) -> anyhow::Result<()> {
     let mut live = LiveHeap::over(heap, EmptyHeap)?;
-    let none = shown(heap, live.new(bare(BuiltIn::NoneType), &[]))?;
-    let list = shown(heap, live.new(holder(BuiltIn::List), &[Value(0)]))?;
-    let dict = shown(heap, live.new(holder(BuiltIn::Dict), &[Value(0), Value(0)]))?;
-    let set = shown(heap, live.new(holder(BuiltIn::Set), &[Value(0)]))?;
-    let tuple = shown(heap, live.new(holder(BuiltIn::Tuple), &[Value(0)]))?;
+    let none = shown(heap, live.new(of(BuiltIn::NoneType, 0), &[]))?;
+    let list = shown(heap, live.new(of(BuiltIn::List, ITERABLE), &[Value(0)]))?;
+    let dict = shown(
+        heap,
+        live.new(of(BuiltIn::Dict, ITERABLE), &[Value(0), Value(0)]),
+    )?;
+    let set = shown(heap, live.new(of(BuiltIn::Set, ITERABLE), &[Value(0)]))?;
+    let tuple = shown(heap, live.new(of(BuiltIn::Tuple, ITERABLE), &[Value(0)]))?;
     println!(rt; "made: {none} {list} {dict} {set} {tuple}")?;
     let holds = shown(heap, live.put(Value(1), 0, Value(1)).map(done))?;
     let part = shown(heap, live.part(Value(1), 0))?;
@@ -132,7 +133,7 @@ fn puts(rt: HostRuntime, heap: Global) -> anyhow::Result<()> {
     live.freeze();
     let after = shown(heap, live.put(Value(1), 0, Value(0)).map(done))?;
     let key_after = shown(heap, live.put(Value(2), 0, Value(0)).map(done))?;
-    let late = shown(heap, live.new(holder(BuiltIn::List), &[Value(1)]))?;
+    let late = shown(heap, live.new(of(BuiltIn::List, ITERABLE), &[Value(1)]))?;
     let free = shown(heap, live.put(Value(5), 0, Value(5)).map(done))?;
     println!(rt; "frozen: put {after}, key {key_after}, new {late}, put there {free}")?;
     let old = shown(heap, live.is_frozen(Value(4)))?;
@@ -145,10 +146,10 @@ fn puts(rt: HostRuntime, heap: Global) -> anyhow::Result<()> {
 // A live heap over a live heap: all of the lower one is frozen for it.
 fn over_live(rt: HostRuntime, heap: Global) -> anyhow::Result<()> {
     let mut lower = LiveHeap::over(heap, EmptyHeap)?;
-    let a = shown(heap, lower.new(bare(BuiltIn::Str), &[]))?;
-    let b = shown(heap, lower.new(holder(BuiltIn::List), &[Value(0)]))?;
+    let a = shown(heap, lower.new(of(BuiltIn::Str, 0), &[]))?;
+    let b = shown(heap, lower.new(of(BuiltIn::List, ITERABLE), &[Value(0)]))?;
     let mut live = LiveHeap::over(heap, lower)?;
-    let c = shown(heap, live.new(holder(BuiltIn::List), &[Value(1)]))?;
+    let c = shown(heap, live.new(of(BuiltIn::List, ITERABLE), &[Value(1)]))?;
     let low = shown(heap, live.put(Value(1), 0, Value(2)).map(done))?;
     let own = shown(heap, live.put(Value(2), 0, Value(2)).map(done))?;
     println!(rt; "over live: {a} {b} {c}, put below {low}, put own {own}")?;
@@ -172,12 +173,13 @@ fn customs(rt: HostRuntime, heap: Global) -> anyhow::Result<()> {
     let pair = Pair::new(first, second);
     let count = pair.count();
     println!(rt; "customs: {count}")?;
+    // Customs are asked by their numbers.
     for n in 0..5 {
         let wild = answer(pair.is_wildcard(n));
         let zero = answer(pair.matches(n, int(0)));
         let big = answer(pair.matches(n, head(1, 8, 0)));
         let low = answer(pair.matches(n, int(-2)));
-        let text = answer(pair.matches(n, bare(BuiltIn::Str)));
+        let text = answer(pair.matches(n, of(BuiltIn::Str, 0)));
         println!(rt; "custom {n}: wildcard {wild}, 0 {zero}, big {big}, -2 {low}, str {text}")?;
     }
     Ok(())

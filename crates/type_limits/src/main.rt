@@ -3,11 +3,8 @@
 
 use std::alloc::{AllocError, Global};
 use typing::types::Types;
+use values::built_in::BuiltIn;
 use values::refusal::Refusal;
-
-const INT: u16 = 1;
-
-const STR: u16 = 4;
 
 const NEVER: usize = 0;
 
@@ -19,11 +16,13 @@ const HOST: u16 = 16;
 fn told(heap: Global, r: Result<usize, Refusal>) -> Result<String, AllocError> {
     match r {
         Ok(n) => format!(in heap; "{n}"),
-        Err(e) => {
-            let n = u8::from(e);
-            format!(in heap; "refused {n}")
-        }
+        Err(why) => format!(in heap; "refused {why}"),
     }
+}
+
+// A plain type of the ones that each host has.
+fn plain(types: &mut Types, ty: BuiltIn) -> Result<usize, Refusal> {
+    types.starlark_value(u16::from(ty))
 }
 
 // The number of a type, or never where it was refused.
@@ -39,8 +38,8 @@ fn start(rt: HostRuntime, heap: Global) -> anyhow::Result<()> {
     let nine = told(heap, types.starlark_value(9))?;
     let zero = told(heap, types.starlark_value(0))?;
     let missing = told(heap, types.list(2))?;
-    let int = told(heap, types.starlark_value(INT))?;
-    let again = told(heap, types.starlark_value(INT))?;
+    let int = told(heap, plain(&mut types, BuiltIn::Int))?;
+    let again = told(heap, plain(&mut types, BuiltIn::Int))?;
     println!(rt;
         "start: {count} types, never and any {both}, 9 {nine}, 0 {zero}, list of 2 {missing}, int {int} {again}"
     )?;
@@ -50,8 +49,8 @@ fn start(rt: HostRuntime, heap: Global) -> anyhow::Result<()> {
 // Two lists become one of the joined items, two sets do not.
 fn merges(rt: HostRuntime, heap: Global) -> anyhow::Result<()> {
     let mut types = Types::new(heap)?;
-    let int = number(types.starlark_value(INT));
-    let text = number(types.starlark_value(STR));
+    let int = number(plain(&mut types, BuiltIn::Int));
+    let text = number(plain(&mut types, BuiltIn::Str));
     let ints = number(types.list(int));
     let texts = number(types.list(text));
     let joined = number(types.union2(ints, texts));
@@ -69,7 +68,7 @@ fn merges(rt: HostRuntime, heap: Global) -> anyhow::Result<()> {
 // int under 31 lists is 32 deep, under 32 refused.
 fn deep(rt: HostRuntime, heap: Global) -> anyhow::Result<()> {
     let mut types = Types::new(heap)?;
-    let mut t = number(types.starlark_value(INT));
+    let mut t = number(plain(&mut types, BuiltIn::Int));
     for _ in 0..31 {
         t = number(types.list(t));
     }
@@ -84,7 +83,7 @@ fn deep(rt: HostRuntime, heap: Global) -> anyhow::Result<()> {
 // A tuple of 64 and of 65; a union of 64 and of 65.
 fn wide(rt: HostRuntime, heap: Global) -> anyhow::Result<()> {
     let mut types = Types::new(heap)?;
-    let int = number(types.starlark_value(INT));
+    let int = number(plain(&mut types, BuiltIn::Int));
     let most = told(heap, types.tuple(&[int; 64]))?;
     let more = told(heap, types.tuple(&[int; 65]))?;
     println!(rt; "tuples: of 64 {most}, of 65 {more}")?;
@@ -113,7 +112,7 @@ fn hosts(types: &mut Types, first: u16, count: u16) -> usize {
 // A weight of 4,096, and of 4,097.
 fn heavy(rt: HostRuntime, heap: Global) -> anyhow::Result<()> {
     let mut types = Types::new(heap)?;
-    let int = number(types.starlark_value(INT));
+    let int = number(plain(&mut types, BuiltIn::Int));
     let ints = number(types.tuple(&[int; 64]));
     let most = number(types.tuple(&[ints; 63]));
     let weight = told(heap, types.weight(most))?;
@@ -127,7 +126,7 @@ fn heavy(rt: HostRuntime, heap: Global) -> anyhow::Result<()> {
 // A union that is too heavy inside and too wide outside is refused by the width.
 fn first_reason(rt: HostRuntime, heap: Global) -> anyhow::Result<()> {
     let mut types = Types::new(heap)?;
-    let int = number(types.starlark_value(INT));
+    let int = number(plain(&mut types, BuiltIn::Int));
     let ints = number(types.tuple(&[int; 64]));
     let one = number(types.tuple(&[ints; 40]));
     let two = number(types.tuple(&[ints; 41]));
@@ -156,7 +155,7 @@ fn many(rt: HostRuntime, heap: Global) -> anyhow::Result<()> {
         let _ = types.starlark_value(HOST + i);
     }
     let count = types.count();
-    let next = told(heap, types.starlark_value(INT))?;
+    let next = told(heap, plain(&mut types, BuiltIn::Int))?;
     let known = told(heap, types.starlark_value(HOST + 1021))?;
     let union = told(heap, types.union2(2, 3))?;
     println!(rt; "types: {count}, one more {next}, the last {known}, a union {union}")?;
@@ -166,9 +165,9 @@ fn many(rt: HostRuntime, heap: Global) -> anyhow::Result<()> {
 // 64 types, of which the first seven tell the bits of a number.
 fn pattern(zero: usize, one: usize, n: u8) -> [usize; 64] {
     let mut parts = [zero; 64];
-    for i in 0..7usize {
+    for (i, part) in parts.iter_mut().take(7).enumerate() {
         if (n >> i as u32) & 1 == 1 {
-            parts[i] = one;
+            *part = one;
         }
     }
     parts
@@ -177,8 +176,8 @@ fn pattern(zero: usize, one: usize, n: u8) -> [usize; 64] {
 // 8,192 places: one for an alternative, one more for each element of a fixed tuple.
 fn crowded(rt: HostRuntime, heap: Global) -> anyhow::Result<()> {
     let mut types = Types::new(heap)?;
-    let int = number(types.starlark_value(INT));
-    let text = number(types.starlark_value(STR));
+    let int = number(plain(&mut types, BuiltIn::Int));
+    let text = number(plain(&mut types, BuiltIn::Str));
     let mut last = 0;
     for k in 0..125u8 {
         last = number(types.tuple(&pattern(int, text, k)));

@@ -1,5 +1,5 @@
 -- The alternatives and the rows that the code holds, as plain lists. Assumes nothing.
-use Rattle.std.specs.Prelude.{◌≡◌, ℕ, ◌-◌, Bool, true, ◌&&◌, List, [], ◌∷◌, map, length, nat_le}
+use Rattle.std.specs.Prelude.{ℕ, ◌-◌, Bool, true, ◌&&◌, List, [], ◌∷◌, map, nat_le}
 use Rattle.std.specs.List.{between}
 use Rattle.membership.specs.Rows.{Alt, any, plain, iter, callable, kind, list, tuple, tuple_of, dict, custom, set_of, each}
 use Rattle.membership.specs.Rows as theory
@@ -106,10 +106,6 @@ table pool all rows = map (row_of pool all) rows
 -- a row's alternatives stand among the first n
 abbrev pub placed : ℕ → Row → Bool
 placed n r = nat_le r.start r.end && nat_le r.end n
-
-pub record Laid (pool : List ℕ) (all : List TyBasic) (rows : List Row) : Type 0 where
-  pub elements : each (pooled (length pool)) all ≡ true
-  pub alternatives : each (placed (length all)) rows ≡ true
 
 abbrev pub inner_of : Inner → theory.Inner
 inner_of p = record { item = p.item; key = p.key; value = p.value }

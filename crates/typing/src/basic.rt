@@ -9,6 +9,7 @@ use std::cmp::Ordering;
 use std::slice;
 
 // A tuple's elements: those of the pool from one place to another, or one type for every element.
+// Rule: memory is reserved when a table is made, so the elements of all tuples lie in one pool.
 #[derive(Clone, Copy)]
 pub enum TyTuple {
     Elems(usize, usize),

@@ -1,6 +1,6 @@
 // The calls that make a table of types and its types.
 ghost use Rattle.std.specs.Prelude.{◌≡◌, true, length, IfOk};
-ghost use Rattle.membership.specs.Rows.{start, plainly, plain_number, single, plain_type, union2, iter, callable, kind, list, tuple, tuple_of, dict, custom, set_of};
+ghost use Rattle.membership.specs.Rows.{start, plainly, single, plain_type, union2, iter, callable, kind, list, tuple, tuple_of, dict, custom, set_of};
 ghost use Rattle.typing.specs.View.{alt, pooled};
 ghost use Rattle.typing.specs.Outcomes.{Answered, MembersOf};
 ghost use Rattle.typing.specs.Held.{rows_of, pool_of};
@@ -10,6 +10,7 @@ use crate::limits::{MAX_PLACES, MAX_TYPES, MAX_WEIGHT, MAX_WIDTH};
 use crate::rows::{NEVER, Row};
 use crate::types::{Rows, Types};
 use std::alloc::{AllocError, Global};
+use values::built_in::is_type_number;
 use values::refusal::Refusal;
 
 // Places for the types of a full table, and for what one call may add to them before it is judged.
@@ -20,18 +21,6 @@ const ALL_ROOM: usize = MAX_PLACES + 2 * MAX_WEIGHT;
 const SCRATCH_ROOM: usize = 2 * MAX_WEIGHT;
 
 const POOL_ROOM: usize = MAX_PLACES + MAX_WIDTH;
-
-// The last type number of the built-in types, and the first of the host's own.
-const LAST_BUILT_IN: u16 = 8;
-
-const FIRST_OWN: u16 = 16;
-
-// Whether a plain type may have this type number.
-fn is_plain_number(n: u16) -> bool
-    ensures { result ≡ plain_number n }
-{
-    n > 0 && n <= LAST_BUILT_IN || n >= FIRST_OWN
-}
 
 impl Types {
     // The table of never and any, with all its memory; only this call can fail for want of memory.
@@ -69,7 +58,7 @@ impl Types {
     pub fn starlark_value(&mut self, number: u16) -> Result<usize, Refusal>
         ensures { Answered (plain_type (rows_of self.old) number) (rows_of self.old) (rows_of self.new) result }
     {
-        if !is_plain_number(number) {
+        if !is_type_number(number) {
             return Err(Refusal::BadForm);
         }
         self.single(TyBasic::StarlarkValue(number))

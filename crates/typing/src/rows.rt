@@ -12,6 +12,7 @@ use crate::limits::{HELD_DEPTH, HELD_WEIGHT};
 use crate::types::Rows;
 
 // A type: where its alternatives stand, its depth and its weight.
+// Rule: memory is reserved when a table is made, so the alternatives of all types lie in one Vec.
 #[derive(Clone, Copy)]
 pub struct Row {
     pub start: usize,
