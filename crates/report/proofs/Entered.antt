@@ -1,13 +1,16 @@
 -- What entering a text keeps: every annotation accepts just the members of its type. Assumes nothing.
-use Rattle.std.proofs.Common.{◌≡◌, ℕ, ◌<◌, ◌≤◌, Bool, true, cond, ltb, ◌⊎◌, List, [], ◌∷◌, ◌++◌, map, length, Ok, Err, sym, refl, ap, ◌∙◌, subst, inl, inr, arith, length-append}
+use Rattle.std.proofs.Common.{◌≡◌, ℕ, ◌<◌, ◌≤◌, Bool, true, ◌⊎◌, List, [], ◌∷◌, ◌++◌, length, Ok, Err, Result, MatchResult, sym, refl, ap, ◌∙◌, subst, inl, inr, arith, length-append, ap₂}
 use Rattle.std.proofs.lemmas.List.{get_or_append_left, get_or_push}
-use Rattle.std.proofs.lemmas.Bool.{cases_lt, lt-ltb, le-ltb, cond-true, cond-false}
-use Rattle.values.specs.declared.refusal.Refusal.TheVariants.{NoNode, NoValue}
-use Rattle.custom.specs.Customs.{Custom, Open}
-use Rattle.custom.specs.Worlds.{World, world}
-use Rattle.values.specs.Cells.{Cell}
+use Rattle.std.proofs.lemmas.Bool.{cases_lt}
+use Rattle.custom.specs.Customs.{Custom, Open, paired}
+use Rattle.custom.specs.Entries.{marks_mean, ranges_mean}
+use Rattle.custom.specs.Held.{marks_in, ranges_in}
+use Rattle.custom.specs.declared.entries.Mark.{Mark}
+use Rattle.custom.specs.declared.entries.Range.{Range}
+use Rattle.custom.specs.declared.list.Entries.{Entries}
+use Rattle.custom.specs.declared.pair.Pair.{Pair}
+use Rattle.custom.specs.Worlds.{world}
 use Rattle.matcher.specs.Nodes.{Node, valid}
-use Rattle.matching.specs.Verdicts.{verdict}
 use Rattle.membership.specs.Rows.{Row, Sound, Keeps}
 use Rattle.membership.proofs.Joins.{keeps_length}
 use Rattle.membership.proofs.Laws.{growing}
@@ -20,10 +23,9 @@ use Rattle.runs.proofs.Fronts.{Front, front_length}
 use Rattle.runs.proofs.Stores.{accepts_kept}
 use Rattle.report.specs.Entering.{State, blank, Setting, Enters, EnterAll, Rightly, AllRight}
 use Rattle.job_format.specs.Order.{Verified}
-use Rattle.job_format.specs.Contents.{job_cells, job_texts, job_queries}
-use Rattle.report.specs.Reports.{checks, job_custom, most_places, job_setting, answered, Answered, Stopped, BadIn}
+use Rattle.report.specs.Reports.{job_custom, most_places, job_setting, Stopped, BadIn}
+use Rattle.job_format.specs.Contents.{job_marks, job_ranges}
 use Rattle.report.specs.Held.{setting}
-use Rattle.report.specs.declared.answer.Answer.{Answer}
 use Rattle.report.specs.declared.bad.BadRecord.{BadRecord}
 use Rattle.report.specs.declared.bad.BadRecord.TheVariants.{Job, Text, Compiling}
 
@@ -72,24 +74,19 @@ pub enter_more : (e : Setting) (ss : List (List ℕ)) (b : List ℕ) (s t u : St
 enter_more e [] b s t u p q = (u, subst (λ (x : State). Enters e b x u) (sym p) q, refl)
 enter_more e (x ∷ ss) b s t u p q = (p.0, p.1, enter_more e ss b p.0 t u p.2 q)
 
--- a root that is right says whether the value is a member
-pub checked : (c : Custom) (s : State) (cells : List Cell) (a v : ℕ) → AllRight c s → a < length s.annotations → verdict (world cells c) s.nodes (annotation_at s.annotations a).root v ≡ checks s (world cells c) a v
-checked c s cells a v right h =
-    let o = right a h in
-    let n = (annotation_at s.annotations a).root in
-    cond-true (ltb n (length s.nodes)) _ _ (lt-ltb n _ o.written)
-    ∙ ap (λ b. cond (ltb v (length cells)) (Ok b) (Err NoValue)) (o.means cells v)
-    ∙ sym (cond-true (ltb a (length s.annotations)) _ _ (lt-ltb a _ h))
+-- a result that is no error
+pub ok_of : {T E : Type 0} (P : T → Type 0) (Q : E → Type 0) (r : Result T E) → ((e : E) → r ≡ Err e → ⊥) → MatchResult r P Q → (x : T) × P x
+ok_of P Q (Ok x) never h = (x, h)
+ok_of P Q (Err e) never h = absurd (never e refl)
 
-pub unchecked : (s : State) (w : World) (a v : ℕ) → length s.annotations ≤ a → Err NoNode ≡ checks s w a v
-unchecked s w a v h = sym (cond-false (ltb a (length s.annotations)) _ _ (le-ltb a _ h))
+-- Marks and then Ranges mean the custom of the job that they were read of
+abbrev pub customs_mean : Pair (Entries Mark) (Entries Range) → Custom
+customs_mean p = paired (marks_mean (marks_in p.first)) (ranges_mean (ranges_in p.second))
+
+pub customs_are : (s : List ℕ) (p : Pair (Entries Mark) (Entries Range)) {ms : Entries Mark} {rs : Entries Range} → p.first ≡ ms → p.second ≡ rs → marks_in ms ≡ job_marks s → ranges_in rs ≡ job_ranges s → customs_mean p ≡ job_custom s
+customs_are s p f g m r = ap₂ (λ ms rs. paired (marks_mean ms) (ranges_mean rs)) (ap marks_in f ∙ m) (ap ranges_in g ∙ r)
 
 -- the custom, the limit and the first state are the job's
-pub answered_of : (s : List ℕ) (k : Custom) (limit : ℕ) (s₀ s₁ : State) (given : List Answer) → k ≡ job_custom s → limit ≡ most_places → s₀ ≡ blank → Verified s → EnterAll (setting true limit k) (job_texts s) s₀ s₁ → given ≡ map (answered s₁ (world (job_cells s) k)) (job_queries s) → Answered s given
-answered_of s k limit s₀ s₁ given e l b v all is =
-    let all' : EnterAll (job_setting s) (job_texts s) blank s₁ = subst (λ (x : Custom). EnterAll (setting true most_places x) (job_texts s) blank s₁) e (subst (λ (m : ℕ). EnterAll (setting true m k) (job_texts s) blank s₁) l (subst (λ (x : State). EnterAll (setting true limit k) (job_texts s) x s₁) b all)) in
-    record { good = v; texts = s₁; entered = all'; answers = is ∙ ap (λ (x : Custom). map (answered s₁ (world (job_cells s) x)) (job_queries s)) e }
-
 stopped_of : (s : List ℕ) (k : Custom) (limit : ℕ) (s₀ : State) (bad : BadRecord) → k ≡ job_custom s → limit ≡ most_places → s₀ ≡ blank → Stopped (setting true limit k) s s₀ bad → Stopped (job_setting s) s blank bad
 stopped_of s k limit s₀ bad e l b p =
     subst (λ (x : Custom). Stopped (setting true most_places x) s blank bad) e (subst (λ (m : ℕ). Stopped (setting true m k) s blank bad) l (subst (λ (x : State). Stopped (setting true limit k) s x bad) b p))

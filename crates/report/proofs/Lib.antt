@@ -1,4 +1,5 @@
 mod Lists
+mod Along
 mod Stays
 mod Entered
 mod Leading

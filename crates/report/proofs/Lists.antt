@@ -9,16 +9,9 @@ use Rattle.report.specs.Asking.{OfCheck, OfChecks}
 use Rattle.report.specs.Lines.{answer_text, answer_lines}
 use Rattle.report.specs.declared.answer.Answer.{Answer}
 
-pub map_more : {A B : Type 0} (f : A → B) (xs : List A) (i : ℕ) (x : A) → i < length xs → x ≡ get_or xs i x → map f (take (i + 1) xs) ≡ map f (take i xs) ++ (f x ∷ [])
-map_more f xs i x h e =
-    ap (map f) (take_more xs i x h) ∙ map-append f (take i xs) (get_or xs i x ∷ []) ∙ ap (λ y. map f (take i xs) ++ (f y ∷ [])) (sym e)
-
 -- what a map gives of one more
 pub pushed : {A B : Type 0} (f : A → B) (xs : List A) (x : A) {ys : List A} {zs : List B} {b : B} → ys ≡ xs ++ (x ∷ []) → map f xs ≡ zs → f x ≡ b → map f ys ≡ zs ++ (b ∷ [])
 pushed f xs x e p q = ap (map f) e ∙ map-append f xs (x ∷ []) ∙ λ i. p i ++ (q i ∷ [])
-
-pub map_take : {A B : Type 0} (f : A → B) (xs : List A) (i : ℕ) (d : A) → i < length xs → map f (take (i + 1) xs) ≡ map f (take i xs) ++ (f (get_or xs i d) ∷ [])
-map_take f xs i d h = ap (map f) (take_more xs i d h) ∙ map-append f (take i xs) (get_or xs i d ∷ [])
 
 -- one of the outcomes of checks
 pub of_at : (os : List (Result Granted Refusal)) (i : ℕ) (d : Result Granted Refusal) → OfChecks (map told os) → i < length os → OfCheck (told (get_or os i d))

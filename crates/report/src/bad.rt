@@ -16,18 +16,11 @@ pub enum BadRecord {
     Compiling(usize, Refusal),
 }
 
-// The fault of a text, with the number of its record.
+// The fault of a record's text, with the number of the record.
 #[derive(Clone, Copy)]
-pub(crate) struct InRecord {
-    pub(crate) record: usize,
-    pub(crate) fault: TextFault,
-}
-
-// A refusal to compile the type of a text, with the number of its record.
-#[derive(Clone, Copy)]
-pub(crate) struct Uncompiled {
-    pub(crate) record: usize,
-    pub(crate) why: Refusal,
+pub(crate) struct InRecord<E> {
+    pub(crate) number: usize,
+    pub(crate) fault: E,
 }
 
 impl From<JobFault> for BadRecord {
@@ -38,18 +31,18 @@ impl From<JobFault> for BadRecord {
     }
 }
 
-impl From<InRecord> for BadRecord {
-    ghost from_gives = { λ x y. y ≡ BadRecord.Text x.«record» x.fault };
+impl From<InRecord<TextFault>> for BadRecord {
+    ghost from_gives = { λ x y. y ≡ BadRecord.Text x.number x.fault };
 
-    fn from(value: InRecord) -> BadRecord {
-        BadRecord::Text(value.record, value.fault)
+    fn from(value: InRecord<TextFault>) -> BadRecord {
+        BadRecord::Text(value.number, value.fault)
     }
 }
 
-impl From<Uncompiled> for BadRecord {
-    ghost from_gives = { λ x y. y ≡ BadRecord.Compiling x.«record» x.why };
+impl From<InRecord<Refusal>> for BadRecord {
+    ghost from_gives = { λ x y. y ≡ BadRecord.Compiling x.number x.fault };
 
-    fn from(value: Uncompiled) -> BadRecord {
-        BadRecord::Compiling(value.record, value.why)
+    fn from(value: InRecord<Refusal>) -> BadRecord {
+        BadRecord::Compiling(value.number, value.fault)
     }
 }

@@ -13,8 +13,9 @@ ghost use Rattle.report.specs.Reports.{Turned, Stopped};
 ghost use Rattle.working_set.specs.Sets.{state_of as set_state};
 ghost use Rattle.report.specs.Held.{state_of, setting, set_over};
 
-use crate::bad::{BadRecord, InRecord, Uncompiled};
+use crate::bad::{BadRecord, InRecord};
 use crate::tables::Tables;
+use annotation::fault::TextFault;
 use annotation::reader::Reader;
 use custom::ty_custom::TyCustom;
 use job::verified::Job;
@@ -26,22 +27,22 @@ use type_compiled::factory::TypeCompiledFactory;
 use typing::types::Types;
 use values::heap::Heap;
 use values::live::LiveHeap;
+use values::refusal::Refusal;
 use working_set::set::WorkingSet;
 
 // Reads a text; its fault is the fault of its record.
 fn read_type(
     reader: &mut Reader,
     types: &mut Types,
-    record: usize,
+    n: usize,
     text: &[u8],
-) -> Result<usize, InRecord>
-    ensures read { MatchResult result (λ ty. ReadAs text.now (rows_of types.old) (rows_of types.new) (Ok ty)) (λ x. (x.«record» ≡ «record») × ReadAs text.now (rows_of types.old) (rows_of types.new) (Err x.fault)) }
+) -> Result<usize, InRecord<TextFault>>
+    ensures read { MatchResult result (λ ty. ReadAs text.now (rows_of types.old) (rows_of types.new) (Ok ty)) (λ x. (x.number ≡ n) × ReadAs text.now (rows_of types.old) (rows_of types.new) (Err x.fault)) }
     ensures stay { OnOk result (Keeps (rows_of types.old) (rows_of types.new)) }
 {
-    match reader.read(text, types) {
-        Ok(ty) => Ok(ty),
-        Err(fault) => Err(InRecord { record, fault }),
-    }
+    reader
+        .read(text, types)
+        .map_err(|fault| InRecord { number: n, fault })
 }
 
 // Compiles the type of a text; a refusal is the fault of its record.
@@ -50,28 +51,26 @@ fn compile_type<C: TyCustom, S: TypeMatcherAlloc>(
     customs: &C,
     store: &mut S,
     annotations: &mut Annotations,
-    record: usize,
+    n: usize,
     ty: usize,
-) -> Result<TypeCompiled, Uncompiled>
-    ensures made { MatchResult result (λ a. alloc_ty_lem S.TypeMatcherAlloc.sharing (S.TypeMatcherAlloc.limit store.old) (rows_of types.now) (C.TyCustom.custom customs.now).wild ty (S.TypeMatcherAlloc.nodes store.old) (annotations_of annotations.old) ≡ granted (entered (S.TypeMatcherAlloc.nodes store.new) (annotations_of annotations.new) a.0)) (λ x. (x.«record» ≡ «record») × (alloc_ty_lem S.TypeMatcherAlloc.sharing (S.TypeMatcherAlloc.limit store.old) (rows_of types.now) (C.TyCustom.custom customs.now).wild ty (S.TypeMatcherAlloc.nodes store.old) (annotations_of annotations.old) ≡ refused (number x.why))) }
-    ensures limit { S.TypeMatcherAlloc.limit store.new ≡ S.TypeMatcherAlloc.limit store.old }
+) -> Result<TypeCompiled, InRecord<Refusal>>
+    ensures made { MatchResult result (λ a. alloc_ty_lem S.sharing (S.limit store.old) (rows_of types.now) (C.custom customs.now).wild ty (S.nodes store.old) (annotations_of annotations.old) ≡ granted (entered (S.nodes store.new) (annotations_of annotations.new) a.0)) (λ x. (x.number ≡ n) × (alloc_ty_lem S.sharing (S.limit store.old) (rows_of types.now) (C.custom customs.now).wild ty (S.nodes store.old) (annotations_of annotations.old) ≡ refused (number x.fault))) }
+    ensures limit { S.limit store.new ≡ S.limit store.old }
 {
-    match alloc_ty(
+    alloc_ty(
         TypeCompiledFactory::new(ty),
         types,
         customs,
         store,
         annotations,
-    ) {
-        Ok(annotation) => Ok(annotation),
-        Err(why) => Err(Uncompiled { record, why }),
-    }
+    )
+    .map_err(|fault| InRecord { number: n, fault })
 }
 
 impl<S: TypeMatcherAlloc + Drop> Tables<S> {
     // Tables with no text entered, over a store.
     pub(crate) fn over(memory: Global, store: S) -> Result<Tables<S>, AllocError>
-        ensures { IfOk result (λ t. (state_of S.TypeMatcherAlloc.nodes t ≡ record { rows = start; nodes = S.TypeMatcherAlloc.nodes store; annotations = [] }) × (t.store ≡ store)) }
+        ensures { IfOk result (λ t. (state_of S.nodes t ≡ record { rows = start; nodes = S.nodes store; annotations = [] }) × (t.store ≡ store)) }
     {
         let types = Types::new(memory)?;
         let reader = Reader::new(memory)?;
@@ -91,7 +90,7 @@ impl<S: TypeMatcherAlloc + Drop> Tables<S> {
         below: H,
         customs: C,
     ) -> Result<WorkingSet<H, S, C>, AllocError>
-        ensures { IfOk result (λ w. (set_state H.Heap.cells S.TypeMatcherAlloc.nodes S.TypeMatcherAlloc.limit w ≡ set_over (H.Heap.cells below) (S.TypeMatcherAlloc.limit self.store) (state_of S.TypeMatcherAlloc.nodes self)) × (w.customs ≡ customs)) }
+        ensures { IfOk result (λ w. (set_state H.cells S.nodes S.limit w ≡ set_over (H.cells below) (S.limit self.store) (state_of S.nodes self)) × (w.customs ≡ customs)) }
     {
         let live = LiveHeap::over(memory, below)?;
         let Tables {
@@ -106,24 +105,19 @@ impl<S: TypeMatcherAlloc + Drop> Tables<S> {
 
 impl<S: TypeMatcherAlloc> Tables<S> {
     // Reads a text and compiles its type.
-    fn enter<C: TyCustom>(
-        &mut self,
-        customs: &C,
-        record: usize,
-        text: &[u8],
-    ) -> Result<(), BadRecord>
-        requires { AllRight (C.TyCustom.custom customs.now) (state_of S.TypeMatcherAlloc.nodes self.old) }
-        ensures entered { MatchResult result (λ _. Enters (setting S.TypeMatcherAlloc.sharing (S.TypeMatcherAlloc.limit self.old.store) (C.TyCustom.custom customs.now)) text.now (state_of S.TypeMatcherAlloc.nodes self.old) (state_of S.TypeMatcherAlloc.nodes self.new)) (λ bad. Turned (setting S.TypeMatcherAlloc.sharing (S.TypeMatcherAlloc.limit self.old.store) (C.TyCustom.custom customs.now)) (state_of S.TypeMatcherAlloc.nodes self.old) «record» text.now bad) }
-        ensures right { OnOk result (AllRight (C.TyCustom.custom customs.now) (state_of S.TypeMatcherAlloc.nodes self.new)) }
-        ensures limit { S.TypeMatcherAlloc.limit self.new.store ≡ S.TypeMatcherAlloc.limit self.old.store }
+    fn enter<C: TyCustom>(&mut self, customs: &C, n: usize, text: &[u8]) -> Result<(), BadRecord>
+        requires { AllRight (C.custom customs.now) (state_of S.nodes self.old) }
+        ensures entered { MatchResult result (λ _. Enters (setting S.sharing (S.limit self.old.store) (C.custom customs.now)) text.now (state_of S.nodes self.old) (state_of S.nodes self.new)) (λ bad. Turned (setting S.sharing (S.limit self.old.store) (C.custom customs.now)) (state_of S.nodes self.old) n text.now bad) }
+        ensures right { OnOk result (AllRight (C.custom customs.now) (state_of S.nodes self.new)) }
+        ensures limit { S.limit self.new.store ≡ S.limit self.old.store }
     {
-        let ty = read_type(&mut self.reader, &mut self.types, record, text)?;
+        let ty = read_type(&mut self.reader, &mut self.types, n, text)?;
         compile_type(
             &self.types,
             customs,
             &mut self.store,
             &mut self.annotations,
-            record,
+            n,
             ty,
         )?;
         Ok(())
@@ -131,10 +125,10 @@ impl<S: TypeMatcherAlloc> Tables<S> {
 
     // Enters the texts of a job, up to the first that is turned down.
     pub(crate) fn enter_all<C: TyCustom>(&mut self, customs: &C, job: &Job) -> Result<(), BadRecord>
-        requires { AllRight (C.TyCustom.custom customs.now) (state_of S.TypeMatcherAlloc.nodes self.old) }
-        ensures limit { S.TypeMatcherAlloc.limit self.new.store ≡ S.TypeMatcherAlloc.limit self.old.store }
-        ensures entered { MatchResult result (λ _. EnterAll (setting S.TypeMatcherAlloc.sharing (S.TypeMatcherAlloc.limit self.old.store) (C.TyCustom.custom customs.now)) (job_texts (job_bytes job.now)) (state_of S.TypeMatcherAlloc.nodes self.old) (state_of S.TypeMatcherAlloc.nodes self.new)) (λ bad. Stopped (setting S.TypeMatcherAlloc.sharing (S.TypeMatcherAlloc.limit self.old.store) (C.TyCustom.custom customs.now)) (job_bytes job.now) (state_of S.TypeMatcherAlloc.nodes self.old) bad) }
-        ensures right { OnOk result (AllRight (C.TyCustom.custom customs.now) (state_of S.TypeMatcherAlloc.nodes self.new)) }
+        requires { AllRight (C.custom customs.now) (state_of S.nodes self.old) }
+        ensures limit { S.limit self.new.store ≡ S.limit self.old.store }
+        ensures entered { MatchResult result (λ _. EnterAll (setting S.sharing (S.limit self.old.store) (C.custom customs.now)) (job_texts (job_bytes job.now)) (state_of S.nodes self.old) (state_of S.nodes self.new)) (λ bad. Stopped (setting S.sharing (S.limit self.old.store) (C.custom customs.now)) (job_bytes job.now) (state_of S.nodes self.old) bad) }
+        ensures right { OnOk result (AllRight (C.custom customs.now) (state_of S.nodes self.new)) }
     {
         for text in job.texts_in_order() {
             self.enter(customs, text.record, text.bytes)?;

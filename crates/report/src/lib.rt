@@ -2,7 +2,6 @@
 #![tactic(auto)]
 
 pub mod answer;
-mod answering;
 mod asking;
 pub mod bad;
 mod entering;

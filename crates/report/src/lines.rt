@@ -7,6 +7,7 @@ use crate::answer::Answer;
 use crate::bad::BadRecord;
 use crate::reported::Reported;
 use crate::reporting::report;
+use job::fault::Report;
 use std::alloc::{AllocError, Global};
 use std::fmt;
 
@@ -21,17 +22,14 @@ impl fmt::Display for Answer {
     ghost output = { λ a. Some (answer_text a) };
 
     fn fmt<W: fmt::Write>(&self, f: &mut fmt::Formatter<W>) -> fmt::Result {
-        let annotation = self.annotation;
-        let value = self.value;
-        match self.says {
-            Ok(is_member) => {
-                let word = yes_or_no(is_member);
-                write!(f, "{annotation} {value} {word}")
-            }
-            Err(why) => {
-                let number = u8::from(why);
-                write!(f, "{annotation} {value} refused {number}")
-            }
+        let Answer {
+            annotation,
+            value,
+            says,
+        } = *self;
+        match says {
+            Ok(is_member) => write!(f, "{annotation} {value} {}", yes_or_no(is_member)),
+            Err(why) => write!(f, "{annotation} {value} refused {why}"),
         }
     }
 }
@@ -40,21 +38,17 @@ impl fmt::Display for BadRecord {
     ghost output = { λ b. Some (bad_text (bad_says b)) };
 
     fn fmt<W: fmt::Write>(&self, f: &mut fmt::Formatter<W>) -> fmt::Result {
-        let bad = self.says();
-        let record = bad.record;
-        let number = bad.number;
-        let byte = bad.byte;
-        write!(f, "bad {record} {number} {byte}")
+        let bad = Report::from(*self);
+        write!(f, "bad {} {} {}", bad.record, bad.number, bad.byte)
     }
 }
 
 // Adds a line for each answer.
-fn add_answers(memory: Global, text: &mut String, answers: &[Answer]) -> Result<(), AllocError>
+fn add_answers(text: &mut String, answers: &[Answer]) -> Result<(), AllocError>
     ensures { OnOk result (string_bytes text.new ≡ string_bytes text.old ++ answer_lines answers.now) }
 {
     for answer in answers {
-        let line = format!(in memory; "{answer}\n")?;
-        text.push_str(line.as_str())?;
+        writeln!(text, "{answer}")?;
     }
     Ok(())
 }
@@ -67,7 +61,7 @@ fn written(memory: Global, reported: &Reported) -> Result<String, AllocError>
         Reported::Bad(bad) => format!(in memory; "{bad}\n"),
         Reported::Answers(answers) => {
             let mut text = String::new(memory);
-            add_answers(memory, &mut text, answers)?;
+            add_answers(&mut text, answers)?;
             Ok(text)
         }
     }

@@ -1,10 +1,10 @@
 use Rattle.std.proofs.Common.{◌≡◌, ◌+◌, [], ◌∷◌, ◌++◌, length, vec_items, sym, ap, ◌∙◌, subst, arith, length-append}
-use Rattle.std.proofs.lemmas.List.{take_more}
+use Rattle.std.proofs.lemmas.List.{take_more, map_more}
 use Rattle.std.proofs.lemmas.Slice.Zip.{zip_turn}
 use Rattle.working_set.specs.Words.{told}
 use Rattle.report.specs.Asking.{tells, query_of, OfCheck}
 use Rattle.report.specs.declared.answer.Answer.{Answer}
-use Rattle.report.proofs.Lists.{pushed, map_take, of_at}
+use Rattle.report.proofs.Lists.{pushed, of_at}
 use Rattle.report.proofs.asking.answers_of.Goals as goal
 
 pub said-requires : goal.said-requires
@@ -24,7 +24,7 @@ loop-query-preserved c =
     let longer : length (c.loop-query.yielded ++ ((c.in-Some.query, c.in-Some.outcome) ∷ [])) ≡ n + 1 = length-append c.loop-query.yielded ((c.in-Some.query, c.in-Some.outcome) ∷ []) in
     rw longer (
       pushed query_of (vec_items c.loop-query.all) x c.push_reserved.ensures.items inv.0 (turn.2 q) ∙ sym (take_more c.args.queries.now n q turn.0),
-      pushed tells (vec_items c.loop-query.all) x c.push_reserved.ensures.items inv.1 (c.said.ensures ∙ ap told (turn.3 o)) ∙ sym (map_take told c.args.outcomes.now n o turn.1),
+      pushed tells (vec_items c.loop-query.all) x c.push_reserved.ensures.items inv.1 (c.said.ensures ∙ ap told (turn.3 o)) ∙ sym (map_more told c.args.outcomes.now n o turn.1),
       omega (arith, c.push_reserved.ensures.len, inv.2),
       omega (arith, c.push_reserved.ensures.capacity, inv.3),
     )

@@ -1,9 +1,7 @@
 use Rattle.typing.specs.Held.{rows_of}
 use Rattle.typing.proofs.Reading.{sound_of}
-use Rattle.report.proofs.Stays.{read_keeps}
+use Rattle.report.proofs.Stays.{reading_stays}
 use Rattle.report.proofs.entering.read_type.Goals as goal
 
-pub returns-in-Ok : goal.returns-in-Ok
-returns-in-Ok c =
-    let r = c.in-Ok.ensures in
-    record { read = r; stay = read_keeps c.args.text.now (rows_of c.args.types.now) (rows_of c.read.new.types) c.in-Ok.ty (sound_of c.args.types.now) r }
+pub returns-clause-stay : goal.returns-clause-stay
+returns-clause-stay c = reading_stays c.args.text.now (rows_of c.args.types.now) (rows_of c.read.new.types) c.read.result c.map_err.result c.map_err.ensures.variant (sound_of c.args.types.now) c.read.ensures
