@@ -11,7 +11,7 @@ pub(crate) struct Record<'a> {
 }
 
 // The records of some bytes that are still to come.
-#[derive(Drop)]
+#[derive(Clone, Copy)]
 pub(crate) struct Records<'a> {
     pub(crate) number: usize,
     pub(crate) rest: &'a [u8],
@@ -19,7 +19,7 @@ pub(crate) struct Records<'a> {
 }
 
 // Those that have one tag.
-#[derive(Drop)]
+#[derive(Clone, Copy)]
 pub(crate) struct Tagged<'a> {
     pub(crate) records: Records<'a>,
     pub(crate) tag: Tag,
