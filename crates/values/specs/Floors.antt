@@ -72,6 +72,12 @@ module _ {H : Type 0} (cells : H → List Cell) (l : LiveHeap H) where
   unfolding own pool lower all
   at_row v h k = at_own v h ∙ get_or-map (cell_of pool) own (v - l.base) no_own no_cell (omega (arith, l.own.rows.ok.0))
 
+  pub lies_lower : (v : ℕ) → v < l.base → length (cells l.below) ≡ l.base → Lies (live_cells cells l) v (cell_at (cells l.below) v)
+  lies_lower v h e = record { within = omega (arith, length_live); is = at_below v h ∙ ap (λ cs. cell_at cs v) (floor_whole l.base (cells l.below) e) }
+
+  pub lies_none : (v : ℕ) → v < l.base → (length (cells l.below) ≢ l.base) → Lies (live_cells cells l) v none_cell
+  lies_none v h ne = record { within = omega (arith, length_live); is = at_below v h ∙ floor_none l.base (cells l.below) v ne h }
+
   pub lies_own : (v : ℕ) → l.base ≤ v → v - l.base < vec_len l.own.rows → Lies (live_cells cells l) v (cell_of (vec_items l.own.pool) (slice_index_or (vec_items l.own.rows) (v - l.base) no_own))
   lies_own v h k = record { within = omega (arith, length_live); is = at_row v h k }
 
