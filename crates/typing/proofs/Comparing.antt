@@ -1,12 +1,12 @@
 -- The order of alternatives, part by part. Assumes nothing.
 use Rattle.std.proofs.Common.{◌≡◌, ℕ, ◌<◌, Bool, true, false, cond, ◌||◌, eqb, ltb, ◌⊎◌, inl, inr, List, [], ◌∷◌, ◌++◌, length, Ordering, Less, Equal, Greater, sym, refl, ap, ◌∙◌, ap₂, arith}
-use Rattle.std.proofs.lemmas.Bool.{cases_order, eq-eqb, lt-ltb, le-ltb}
+use Rattle.std.proofs.lemmas.Bool.{cases_order, eq-eqb, lt-ltb, le-ltb, true≢false}
 use Rattle.std.proofs.lemmas.Bool.Decides.{nat_tests}
 use Rattle.std.proofs.lemmas.List.{append-nil}
-use Rattle.std.specs.Ordering.{nat_cmp, ordering_then}
+use Rattle.std.specs.Ordering.{nat_cmp, ordering_then, is_ne}
 use Rattle.std.specs.Cmp.Lexicographic.{slice_cmp}
 use Rattle.membership.specs.Rows.{Alt, any, plain, iter, callable, kind, list, tuple, tuple_of, dict, custom, set_of, rank, numbers, order, compared}
-use Rattle.typing.specs.View.{own_number, first_parts, second_parts}
+use Rattle.typing.specs.View.{own_number, first_parts, second_parts, by_parts}
 
 cmp_equal : (x y : ℕ) → x ≡ y → nat_cmp x y ≡ Equal
 cmp_equal x y e = let a = le-ltb x y (omega arith) in let b = eq-eqb x y e in rw (a, b) refl
@@ -40,6 +40,11 @@ then_equal : (a : Ordering) → ordering_then a Equal ≡ a
 then_equal Less = refl
 then_equal Equal = refl
 then_equal Greater = refl
+
+then_second : (a b : Ordering) → is_ne a ≡ false → ordering_then a b ≡ b
+then_second Less b e = absurd (true≢false e)
+then_second Equal b e = refl
+then_second Greater b e = absurd (true≢false e)
 
 both : (p q r s : List ℕ) → length p ≡ length r → slice_cmp nat_cmp (p ++ q) (r ++ s) ≡ ordering_then (slice_cmp nat_cmp p r) (slice_cmp nat_cmp q s)
 both [] q [] s e = refl
@@ -120,3 +125,17 @@ module _ (x y : Alt) where
       nest =
           then_then (ordering_then (nat_cmp (rank x) (rank y)) (nat_cmp (own_number x) (own_number y))) (slice_cmp nat_cmp (first_parts x) (first_parts y)) (slice_cmp nat_cmp (second_parts x) (second_parts y))
           ∙ then_then (nat_cmp (rank x) (rank y)) (nat_cmp (own_number x) (own_number y)) (ordering_then (slice_cmp nat_cmp (first_parts x) (first_parts y)) (slice_cmp nat_cmp (second_parts x) (second_parts y)))
+
+  -- the kind and the number first, and the parts where these are equal
+  pub compared_kinds : compared x y ≡ ordering_then (nat_cmp (rank x) (rank y)) (ordering_then (nat_cmp (own_number x) (own_number y)) (by_parts x y))
+  compared_kinds =
+      compared_parts
+      ∙ then_then (ordering_then (nat_cmp (rank x) (rank y)) (nat_cmp (own_number x) (own_number y))) (slice_cmp nat_cmp (first_parts x) (first_parts y)) (slice_cmp nat_cmp (second_parts x) (second_parts y))
+      ∙ then_then (nat_cmp (rank x) (rank y)) (nat_cmp (own_number x) (own_number y)) (by_parts x y)
+
+  -- where kinds and numbers are found equal, the parts decide
+  pub parts_decide : (r s m n : ℕ) (o p : Ordering) → r ≡ rank x → s ≡ rank y → m ≡ own_number x → n ≡ own_number y → o ≡ nat_cmp r s → p ≡ nat_cmp m n → is_ne o ≡ false → is_ne p ≡ false → compared x y ≡ by_parts x y
+  parts_decide r s m n o p a b c d e f g h =
+      compared_kinds
+      ∙ then_second (nat_cmp (rank x) (rank y)) (ordering_then (nat_cmp (own_number x) (own_number y)) (by_parts x y)) (sym (ap is_ne (e ∙ ap₂ nat_cmp a b)) ∙ g)
+      ∙ then_second (nat_cmp (own_number x) (own_number y)) (by_parts x y) (sym (ap is_ne (f ∙ ap₂ nat_cmp c d)) ∙ h)

@@ -1,6 +1,9 @@
 -- The alternatives and the rows that the code holds, as plain lists. Assumes nothing.
 use Rattle.std.specs.Prelude.{ℕ, ◌-◌, Bool, true, ◌&&◌, List, [], ◌∷◌, map, nat_le}
 use Rattle.std.specs.List.{between}
+use Rattle.std.specs.Ordering.{nat_cmp, ordering_then}
+use Rattle.std.specs.declared.cmp.Ordering.{Ordering}
+use Rattle.std.specs.Cmp.Lexicographic.{slice_cmp}
 use Rattle.membership.specs.Rows.{Alt, any, plain, iter, callable, kind, list, tuple, tuple_of, dict, custom, set_of, each}
 use Rattle.membership.specs.Rows as theory
 use Rattle.typing.specs.declared.basic.TyBasic.{TyBasic}
@@ -64,6 +67,10 @@ second_parts (tuple_of t) = []
 second_parts (dict k v) = v ∷ []
 second_parts (custom n) = []
 second_parts (set_of t) = []
+
+-- the order of the parts, for two of one kind and one number
+abbrev pub by_parts : Alt → Alt → Ordering
+by_parts x y = ordering_then (slice_cmp nat_cmp (first_parts x) (first_parts y)) (slice_cmp nat_cmp (second_parts x) (second_parts y))
 
 -- its elements stand among the first n of the pool
 abbrev pub pooled : ℕ → TyBasic → Bool

@@ -1,9 +1,11 @@
 // The alternatives of a type and their order. The elements of fixed tuples stand in a pool.
 ghost use Rattle.std.specs.Prelude.{◌≡◌, ℕ, ◌+◌, ◌<◌, ◌≤◌, true, List, [], ◌∷◌, ◌++◌, length, take, drop, vec_len, vec_capacity, MatchResult};
 ghost use Rattle.std.specs.List.{between, slice_get};
+ghost use Rattle.std.specs.Ordering.{nat_cmp};
+ghost use Rattle.std.specs.Cmp.Lexicographic.{slice_cmp};
 ghost use Rattle.membership.specs.Rows.{rank, parts, compared, same_alts, put, put_settled_lem, settle, inner, no_inner, with_part, each, is_any};
 ghost use Rattle.membership.specs.Readings.{elems, plain_alt};
-ghost use Rattle.typing.specs.View.{alt, alts, pooled, span, own_number, first_parts, second_parts, inner_of};
+ghost use Rattle.typing.specs.View.{alt, alts, pooled, span, own_number, first_parts, second_parts, by_parts, inner_of};
 
 use std::cmp::Ordering;
 use std::slice;
@@ -37,6 +39,13 @@ fn stretch(pool: &[usize], from: usize, to: usize) -> &[usize]
 {
     let end = to.min(pool.len());
     &pool[from.min(end)..end]
+}
+
+// The order of two slices, number by number. The slices' own order is made for longer ones: most of these hold one number or none.
+fn order(a: &[usize], b: &[usize]) -> Ordering
+    ensures { result ≡ slice_cmp nat_cmp a.now b.now }
+{
+    a.iter().cmp(b.iter())
 }
 
 impl TyBasic {
@@ -126,13 +135,29 @@ impl TyBasic {
     pub(crate) fn compare(&self, other: &TyBasic, pool: &[usize]) -> Ordering
         ensures { result ≡ compared (alt pool.now self.now) (alt pool.now other.now) }
     {
+        let by_kind = self.rank().cmp(&other.rank());
+        if by_kind.is_ne() {
+            return by_kind;
+        }
+        let by_number = self.number().cmp(&other.number());
+        if by_number.is_ne() {
+            return by_number;
+        }
+        self.compare_parts(other, pool)
+    }
+
+    // The order of the parts, as two pairs of slices are compared. Most alternatives differ before, so that it's left out of line.
+    #[inline(never)]
+    fn compare_parts(&self, other: &TyBasic, pool: &[usize]) -> Ordering
+        ensures { result ≡ by_parts (alt pool.now self.now) (alt pool.now other.now) }
+    {
         let (a, b) = self.parts(pool);
         let (c, d) = other.parts(pool);
-        self.rank()
-            .cmp(&other.rank())
-            .then(self.number().cmp(&other.number()))
-            .then(a.cmp(&c))
-            .then(b.cmp(&d))
+        let by_first = order(a, c);
+        if by_first.is_ne() {
+            return by_first;
+        }
+        order(b, d)
     }
 }
 
