@@ -1,16 +1,13 @@
 -- The word and the class that the reader finds are those of the grammar. Assumes nothing.
-use Rattle.std.proofs.Common.{◌≡◌, ℕ, ◌==◌, ◌^◌, ◌<◌, ◌≤◌, Bool, true, false, cond, not, ◌||◌, leb, ◌⊎◌, List, [], ◌∷◌, ◌++◌, map, length, get_or, take, drop, Bor, Some, None, Ok, Err, codes, decimal, Option, MatchOption, Result, MatchResult, sym, refl, ap, ◌∙◌, subst, inl, inr, ⊎_elim, arith, take-append-drop, rules}
-use Rattle.std.specs.List.{find}
+use Rattle.std.proofs.Common.{◌≡◌, ℕ, ◌==◌, ◌+◌, ◌-◌, ◌*◌, ◌^◌, ◌<◌, ◌≤◌, Bool, true, false, cond, not, ◌&&◌, ◌||◌, leb, ◌⊎◌, List, [], ◌∷◌, ◌++◌, map, length, get_or, take, drop, Bor, Some, None, codes, decimal, Option, MatchOption, sym, refl, ap, ◌∙◌, inl, inr, ⊎_elim, arith, take-append-drop, rules}
+use Rattle.std.specs.List.{find, fold}
+use Rattle.std.specs.Char.{is_ascii_digit}
 use Rattle.std.specs.Option.{option_map}
-use Rattle.std.specs.Result.{OkIff, result_ok}
-use Rattle.std.specs.Str.{bytes_eq, all_ascii_digits, IsUtf8}
-use Rattle.std.specs.Str.Parse.{ParsesUnsigned}
-use Rattle.std.proofs.lemmas.List.{get_or_past}
+use Rattle.std.specs.Str.{bytes_eq, all_ascii_digits}
 use Rattle.std.proofs.lemmas.Slice.Eq.{bytes_eq-Decides}
 use Rattle.std.proofs.lemmas.Fmt.{digits_decimal, digits_value-decimal, length-decimal-le, decimal_nonempty, first_decimal, decimal_digit, decimal-digits_value}
-use Rattle.std.proofs.lemmas.Str.{IsUtf8-from_ascii}
-use Rattle.std.proofs.lemmas.Str.Parse.{IsNumeralModel, numerals_by_fold, tells_all_ascii_digits, digit_at, not_in_digits, parse_plain}
-use Rattle.std.proofs.lemmas.Bool.{and_left, and_right, and_cases, not-false, not_from_true, and_parts, and_from, or_cases, or_parts, leb-true, eqb-true, eqb-false, not-true, le-leb, eq-eqb, ne_eqb, not_from_false, cond-true, cond-false, cases_lt, true≢false}
+use Rattle.std.proofs.lemmas.Str.Parse.{IsNumeralModel, numerals_by_fold, tells_all_ascii_digits, not_in_digits}
+use Rattle.std.proofs.lemmas.Bool.{and_left, and_right, and_cases, not-false, not_from_true, and_parts, and_from, or_cases, or_parts, leb-true, leb-false, lt-leb, eqb-true, eqb-false, not-true, le-leb, eq-eqb, ne_eqb, not_from_false, cond-true, cond-false, cases_lt, true≢false}
 use Rattle.grammar.specs.declared.words.Class.{Class}
 use Rattle.grammar.specs.declared.words.Word.{Word}
 use Rattle.grammar.specs.declared.words.Word.TheVariants.{Host, Custom}
@@ -55,9 +52,6 @@ number_to n lt =
     (and_from _ _ (le-leb (length (decimal n)) 5 (length-decimal-le 5 n (omega arith) (omega arith) big))
     (and_from _ _ (not_from_false _ (⊎_elim (λ (pos : 0 < n). and_left _ _ (ne_eqb (get_or (decimal n) 0 0) 48 (let f = first_decimal n pos big in λ z. omega arith))) (λ (z : n ≤ 0). let q : n ≡ 0 = omega arith in and_right _ _ (not_from_true _ (eq-eqb (length (decimal n)) 1 (ap (λ k. length (decimal k)) q ∙ ap length (decimal_digit 0 (omega arith)))))) (cases_lt 0 n)))
     (and_from _ _ (digits_decimal own n big) (le-leb (read_on 0 (decimal n)) 65535 (let v = digits_value-decimal own n big in omega arith)))))
-
-numeral : (ds : List ℕ) → all_ascii_digits ds ≡ true → 0 < length ds → zero_first_lem ds ≡ false → read_on 0 ds < 65536 → is_number ds ≡ true
-numeral ds digits some plain small = ap is_number (sym (written ds digits some plain small)) ∙ number_to (read_on 0 ds) small
 
 number_is : (n : ℕ) → n < 65536 → number (decimal n) ≡ Some n
 number_is n lt = let big : n < 2 ^ 64 = omega arith in cond-true (is_number (decimal n)) (Some (read_on 0 (decimal n))) None (number_to n lt) ∙ ap Some (digits_value-decimal own n big)
@@ -151,23 +145,45 @@ padded ds e =
     let p = number_parts ds n in
     ⊎_elim (λ plus. not_in_digits own ds 43 p.digits (λ r. omega (arith, r.0)) 0 p.some (eqb-true (get_or ds 0 0) 43 plus)) (λ z. true≢false (sym z ∙ p.plain)) (or_cases _ _ e))
 
-pub no_text : {T E : Type 0} (ds : List ℕ) (r : Result T E) (P : T → Type 0) (Q : E → Type 0) → MatchResult r P (λ e. ¬ (IsUtf8 ds) × Q e) → None ≡ result_ok r → None ≡ number ds
-no_text ds (Ok t) P Q h e = let z : ◌≡◌ {A = ℕ} 0 1 = cc in absurd (omega arith)
-no_text ds (Err x) P Q h e =
+pub wrong_length : (ds : List ℕ) → ((1 ≤ length ds) × (length ds ≤ 5) → ⊥) → None ≡ number ds
+unfolding is_number
+wrong_length ds h =
     not_number ds (λ n.
-    let p = number_parts ds n in
-    h.0 (IsUtf8-from_ascii ds (λ i. ⊎_elim (λ lt. let r = digit_at ds i (own.to ds p.digits) lt in omega (arith, r.1)) (λ past. let z = get_or_past ds i 0 past in omega arith) (cases_lt i (length ds)))))
+    let a = and_parts (leb 1 (length ds)) _ n in
+    let b = and_parts (leb (length ds) 5) _ a.1 in
+    h (leb-true 1 (length ds) a.0, leb-true (length ds) 5 b.0))
 
-pub text_of : {E : Type 0} (ds : List ℕ) (r : Result (Bor (List ℕ)) E) (t : Bor (List ℕ)) (P : Type 0) (Q : E → Type 0) → MatchResult r (λ s. (s.now ≡ ds) × P) Q → Some t ≡ result_ok r → t.now ≡ ds
-text_of ds (Ok s) t P Q h e = let same : t ≡ s = cc in ap (λ s. s.now) same ∙ h.0
-text_of ds (Err x) t P Q h e = let z : ◌≡◌ {A = ℕ} 0 1 = cc in absurd (omega arith)
+-- the number so far with one digit more, as `with_digit` answers it
+abbrev pub further : Option ℕ → ℕ → Option ℕ
+further (Some n) c = cond (is_ascii_digit c && leb (10 * n + (c - 48)) 65535) (Some (10 * n + (c - 48))) None
+further None c = None
 
-pub parsed : {E : Type 0} (ds t : List ℕ) (r : Result ℕ E) (o : Option ℕ) → t ≡ ds → ParsesUnsigned 16 10 t r → (get_or ds 0 0 == 43 || zero_first_lem ds) ≡ false → o ≡ result_ok r → o ≡ number ds
-parsed {E} ds t r o q p plain e = e ∙ go r (parse_plain own 16 ds r (subst (λ t. ParsesUnsigned 16 10 t r) q p) (λ z. eqb-false (get_or ds 0 0) 43 (or_parts _ _ plain).0 z))
+read_grows : (n : ℕ) (ds : List ℕ) → n ≤ read_on n ds
+read_grows n [] = omega arith
+read_grows n (c ∷ cs) = let r = read_grows (10 * n + (c - 48)) cs in omega (arith, r)
+
+none_further : (ds : List ℕ) → fold further None ds ≡ None
+none_further [] = refl
+none_further (c ∷ cs) = none_further cs
+
+folded : (n : ℕ) (ds : List ℕ) → n ≤ 65535 → fold further (Some n) ds ≡ cond (all_ascii_digits ds && leb (read_on n ds) 65535) (Some (read_on n ds)) None
+folded n [] le = sym (cond-true _ _ _ (le-leb n 65535 le))
+folded n (c ∷ cs) le = go (is_ascii_digit c) (leb (10 * n + (c - 48)) 65535) refl (folded (10 * n + (c - 48)) cs)
   where
-    go : (r : Result ℕ E) → OkIff r ((all_ascii_digits ds ≡ true) × (0 < length ds) × (read_on 0 ds < 2 ^ 16)) (read_on 0 ds) → result_ok r ≡ number ds
-    go (Ok n) h = ap Some h.1 ∙ sym (cond-true (is_number ds) (Some (read_on 0 ds)) None (numeral ds h.0.0 h.0.1 (or_parts _ _ plain).1 h.0.2))
-    go (Err x) h = not_number ds (λ n. let p = number_parts ds n in h (p.digits, p.some, p.small))
+    m : ℕ
+    m = 10 * n + (c - 48)
+
+    go : (a b : Bool) → leb m 65535 ≡ b → (m ≤ 65535 → fold further (Some m) cs ≡ cond (all_ascii_digits cs && leb (read_on m cs) 65535) (Some (read_on m cs)) None) → fold further (cond (a && b) (Some m) None) cs ≡ cond ((a && all_ascii_digits cs) && leb (read_on m cs) 65535) (Some (read_on m cs)) None
+    go true true s rec = rec (leb-true m 65535 s)
+    go true false s rec = none_further cs ∙ sym (cond-false _ _ _ (and_right (all_ascii_digits cs) _ (let r = read_grows m cs in let t = leb-false m 65535 s in lt-leb (read_on m cs) 65535 (omega (arith, r, t)))))
+    go false b s rec = none_further cs
+
+-- folding in the digits gives the number
+pub digits_folded : (ds : List ℕ) (o : Option ℕ) → o ≡ fold further (Some 0) ds → 1 ≤ length ds → length ds ≤ 5 → (get_or ds 0 0 == 43 || zero_first_lem ds) ≡ false → o ≡ number ds
+unfolding is_number
+digits_folded ds o e some short plain =
+    let p : not (zero_first_lem ds) ≡ true = not_from_false _ (or_parts _ _ plain).1 in
+    e ∙ folded 0 ds (omega arith) ∙ sym (λ i. cond (le-leb 1 (length ds) some i && (le-leb (length ds) 5 short i && (p i && (all_ascii_digits ds && leb (read_on 0 ds) 65535)))) (Some (read_on 0 ds)) None)
 
 -- a search among spelled words is a look-up in the rows
 abbrev pub spelled : List ℕ → Bor (List ℕ) × Word → Bool
@@ -191,11 +207,8 @@ pub classed : (w : List ℕ) (o : Option Word) (r : Option Class) → o ≡ know
 unfolding class
 classed w o r e h = h ∙ ap class_by e
 
-pub looked_up : (w : List ℕ) (rs : List Row) (d o r : Option Word) {Q : Type 0} → o ≡ look_up w rs None → MatchOption o Q (λ x. r ≡ Some x) → (Q → r ≡ d) → r ≡ look_up w rs d
-looked_up w [] d None r e h missed = missed h
-looked_up w [] d (Some x) r e h missed = let z : ◌≡◌ {A = ℕ} 0 1 = cc in absurd (omega arith)
-looked_up w (row v x ∷ rs) d o r {Q} e h missed = go (bytes_eq w v) e (λ e. looked_up w rs d o r e h missed)
-  where
-    go : (b : Bool) → o ≡ cond b (Some x) (look_up w rs None) → (o ≡ look_up w rs None → r ≡ look_up w rs d) → r ≡ cond b (Some x) (look_up w rs d)
-    go true e rec = subst (λ o. MatchOption o Q (λ x. r ≡ Some x)) e h
-    go false e rec = rec e
+-- numbered words are told first, and any other word is looked up
+pub told : (w : List ℕ) (o r : Option Word) {Q : Type 0} → o ≡ numbered w → MatchOption o Q (λ x. r ≡ Some x) → (Q → r ≡ look_up w table None) → r ≡ known w
+unfolding known
+told w None r e h missed = missed h ∙ ap (look_up w table) e
+told w (Some x) r e h missed = h ∙ sym (means_known w x (inr (numbered_from w x (sym e))))

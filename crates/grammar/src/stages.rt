@@ -69,9 +69,9 @@ pub fn entry_of(token: Token<'_>) -> Entry
 pub(crate) fn entry_at(stage: Stage, token: Token<'_>) -> Entry
     ensures { Enters result stage token.entry }
 {
-    match entry_of(token) {
-        Entry::Shut if stage == Stage::First => Entry::Shut,
-        Entry::Dotted if stage == Stage::Second => Entry::Dotted,
+    match stage {
+        Stage::First if matches!(token, Token::Close) => Entry::Shut,
+        Stage::Second if matches!(entry_of(token), Entry::Dotted) => Entry::Dotted,
         _ => Entry::Plain,
     }
 }

@@ -1,5 +1,6 @@
 // The words that the grammar knows, and how they are told.
-ghost use Rattle.std.specs.Prelude.{◌≡◌, ◌==◌, ◌||◌, map, slice_index};
+ghost use Rattle.std.specs.Prelude.{◌≡◌, ◌+◌, ◌-◌, ◌*◌, ◌==◌, ◌&&◌, ◌||◌, cond, nat_le, Some, None, map, slice_index};
+ghost use Rattle.std.specs.Char.{is_ascii_digit};
 ghost use Rattle.grammar.specs.Names.{row, takes};
 ghost use Rattle.grammar.specs.Machine.{zero_first_lem, number, numbered, look_up, known, class};
 
@@ -34,11 +35,24 @@ pub enum Class {
     Dots,
 }
 
-// A sign or a needless zero in front, which `parse` would take.
+// A sign or a needless zero in front.
 fn is_padded(digits: &[u8]) -> bool
     ensures { result ≡ (slice_index digits.now 0 == 43 || zero_first_lem digits.now) }
 {
     matches!(digits, [b'+', ..] | [b'0', _, ..])
+}
+
+// The most digits that the number of a name has.
+const DIGITS: usize = 5;
+
+// The number with one digit more behind it, if it is one of 16 bits then.
+fn with_digit(n: u16, digit: u8) -> Option<u16>
+    ensures { result ≡ cond (is_ascii_digit digit && nat_le (10 * n + (digit - 48)) 65535) (Some (10 * n + (digit - 48))) None }
+{
+    if !digit.is_ascii_digit() {
+        return None;
+    }
+    u16::try_from(10 * u32::from(n) + u32::from(digit - b'0')).ok()
 }
 
 // The number of a name, as it is written: in decimal, with no sign and no zero in front.
@@ -48,7 +62,10 @@ fn number_of(digits: &[u8]) -> Option<u16>
     if is_padded(digits) {
         return None;
     }
-    str::from_utf8(digits).ok()?.parse::<u16>().ok()
+    if digits.is_empty() || digits.len() > DIGITS {
+        return None;
+    }
+    digits.iter().fold(Some(0), |n, b| with_digit(n?, *b))
 }
 
 // host.N and custom.N.
@@ -92,7 +109,7 @@ fn spelled_word(rows: &[(&[u8], Word)], word: &[u8]) -> Option<Word>
 pub fn word_of(word: &[u8]) -> Option<Word>
     ensures { result ≡ known word.now }
 {
-    spelled_word(&SPELLED, word).or_else(|| numbered_word(word))
+    numbered_word(word).or_else(|| spelled_word(&SPELLED, word))
 }
 
 impl Word {
