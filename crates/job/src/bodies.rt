@@ -8,6 +8,7 @@ use crate::limits::{
 use job_format::tag::Tag;
 
 // So many bytes from the place i on.
+#[inline]
 fn chunk_at<const N: usize>(body: &[u8], i: usize) -> [u8; N]
     requires { i + N ≤ length body.now }
     ensures { (k : ℕ) → k < N → slice_index result k ≡ slice_index body.now (i + k) }
@@ -16,6 +17,7 @@ fn chunk_at<const N: usize>(body: &[u8], i: usize) -> [u8; N]
 }
 
 // A two-byte number from the place i on.
+#[inline]
 pub(crate) fn two_at(body: &[u8], i: usize) -> u16
     requires { i + 2 ≤ length body.now }
     ensures { result ≡ slice_index body.now i * 256 + slice_index body.now (i + 1) }
@@ -24,6 +26,7 @@ pub(crate) fn two_at(body: &[u8], i: usize) -> u16
 }
 
 // An eight-byte signed number from the place i on.
+#[inline]
 pub(crate) fn eight_at(body: &[u8], i: usize) -> i64
     requires { i + 8 ≤ length body.now }
     ensures { result ≡ signed_at i body.now }

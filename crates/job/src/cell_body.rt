@@ -20,6 +20,7 @@ pub(crate) struct CellBody<'a> {
 
 impl<'a> CellBody<'a> {
     // The cell in a body.
+    #[inline]
     pub(crate) fn new(body: &'a [u8]) -> CellBody<'a>
         requires { cell_bytes ≤ length body.now }
         ensures { cell_held result ≡ cell_in body.now }
@@ -34,6 +35,7 @@ impl<'a> CellBody<'a> {
     }
 
     // The part at the place i.
+    #[inline]
     pub(crate) fn part(self, i: usize) -> Option<usize>
         ensures { result ≡ slice_get (cell_held self.entry).parts i }
     {

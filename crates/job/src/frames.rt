@@ -8,6 +8,7 @@ use crate::records::{Record, Records, Tagged};
 use job_format::tag::Tag;
 
 // The tag and the body at the front of some bytes, and what follows. The first three bytes are the tag and the body's length.
+#[inline]
 fn split(s: &[u8]) -> Option<(u8, &[u8], &[u8])>
     ensures { MatchOption result (is_whole s.now ≡ false) (λ c. Splits s.now c.0 c.1.now c.2.now) }
 {
@@ -46,6 +47,7 @@ impl<'a> Iterator for Records<'a> {
 
     ghost remaining = { item_count still_to_come };
 
+    #[inline]
     fn next(&mut self) -> Option<Record<'a>> {
         let (tag, body, rest) = split(self.rest)?;
         let number = self.number;
@@ -62,6 +64,7 @@ impl<'a> Iterator for Tagged<'a> {
 
     ghost remaining = { item_count numbered_left };
 
+    #[inline]
     fn next(&mut self) -> Option<Record<'a>> {
         let tag = u8::from(self.tag);
         self.records.find(|record| record.tag == tag)

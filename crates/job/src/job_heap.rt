@@ -26,14 +26,17 @@ impl Heap for Job {
         self.cells
     }
 
+    #[inline]
     fn head(&self, v: Value) -> Result<Head, Refusal> {
         Ok(self.cell(v.0)?.head)
     }
 
+    #[inline]
     fn len(&self, v: Value) -> Result<usize, Refusal> {
         Ok(self.cell(v.0)?.parts.len())
     }
 
+    #[inline]
     fn part(&self, v: Value, i: usize) -> Result<Value, Refusal> {
         let part = self.cell(v.0)?.part(i).ok_or(Refusal::NoValue)?;
         Ok(Value(part))

@@ -31,6 +31,7 @@ impl RawJob {
 
 impl Job {
     // The records with this tag.
+    #[inline]
     pub(crate) fn tagged(&self, tag: Tag) -> Tagged<'_>
         ensures { numbered_left result ≡ numbered (tag_number tag) 0 (records (job_bytes self.now)) }
     {
@@ -38,6 +39,7 @@ impl Job {
     }
 
     // The cell with the number v.
+    #[inline]
     pub(crate) fn cell(&self, v: usize) -> Result<CellBody<'_>, Refusal>
         ensures { MatchResult result (λ c. Lies (job_cells (job_bytes self.now)) v (cell_held c)) (λ why. (why ≡ Refusal.NoValue) × (length (job_cells (job_bytes self.now)) ≤ v)) }
     {

@@ -60,18 +60,22 @@ impl<const SHARES: bool> TypeMatcherAlloc for Store<SHARES> {
         self.table.free_places()
     }
 
+    #[inline]
     fn kind(&self, n: usize) -> Result<Kind, Refusal> {
         Ok(self.table.node(n)?.kind)
     }
 
+    #[inline]
     fn number(&self, n: usize) -> Result<u16, Refusal> {
         Ok(self.table.node(n)?.number)
     }
 
+    #[inline]
     fn kids(&self, n: usize) -> Result<usize, Refusal> {
         Ok(self.table.node(n)?.kids.len())
     }
 
+    #[inline]
     fn kid(&self, n: usize, i: usize) -> Result<usize, Refusal> {
         self.table
             .node(n)?

@@ -34,6 +34,7 @@ impl Table {
     }
 
     // The row of a node.
+    #[inline]
     fn row(&self, n: usize) -> Result<Row, Refusal>
         ensures { result ≡ row_says self.now.rows.items n (λ x. x) }
     {
@@ -41,6 +42,7 @@ impl Table {
     }
 
     // The kids of a row.
+    #[inline]
     fn kids(&self, row: Row) -> &[usize]
         requires { row.first + row.count ≤ vec_len self.now.pool }
         ensures { result.now ≡ kids_of self.now.pool.items row }
@@ -49,6 +51,7 @@ impl Table {
     }
 
     // The node n.
+    #[inline]
     pub(crate) fn node(&self, n: usize) -> Result<Node<'_>, Refusal>
         ensures { MatchResult result (λ d. (n < length (nodes_in self.now)) × (meant d ≡ node_at_lem (nodes_in self.now) n)) (λ e. (length (nodes_in self.now) ≤ n) × (e ≡ NoNode)) }
     {

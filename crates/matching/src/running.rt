@@ -18,6 +18,7 @@ use values::value::Value;
 
 impl<H: Heap, S: TypeMatcherAlloc, C: TyCustom> Setting<'_, H, S, C> {
     // Begins with the node n at the value v: answers at once, or leaves a frame that waits.
+    #[inline]
     fn enter(&self, n: usize, v: Value, stack: &mut ArrayVec<Frame, DEEPEST>) -> bool
         requires { Ready (world_of H.cells C.custom self.now) (S.nodes self.now.store.now) stack.old.items n v.0 }
         ensures { Entered (world_of H.cells C.custom self.now) (S.nodes self.now.store.now) stack.old.items n v.0 stack.new.items result }
@@ -41,6 +42,7 @@ impl<H: Heap, S: TypeMatcherAlloc, C: TyCustom> Setting<'_, H, S, C> {
     }
 
     // Tells the frame f what its last place said.
+    #[inline]
     fn resume(&self, mut f: Frame, told: bool, stack: &mut ArrayVec<Frame, DEEPEST>) -> bool
         requires { Sounds (world_of H.cells C.custom self.now) (S.nodes self.now.store.now) deepest (stack.old.items ++ (f ∷ [])) }
         ensures { Resumed (world_of H.cells C.custom self.now) (S.nodes self.now.store.now) (stack.old.items ++ (f ∷ [])) told stack.new.items result }

@@ -50,6 +50,7 @@ fn is_inside(kind: Kind) -> bool
 impl<H: Heap, S: TypeMatcherAlloc, C: TyCustom> Setting<'_, H, S, C> {
     // The kid that a question asks at the place i, and the value of which it asks it.
     #[tactic(auto, unfolding(crate::specs::Shapes::kid_of, crate::specs::Shapes::sub_of))]
+    #[inline]
     pub(crate) fn place(&self, q: &Question, i: usize) -> (usize, Value)
         requires node { q.now.node < length (S.nodes self.now.store.now) }
         requires kind { q.now.kind ≡ (node_at_lem (S.nodes self.now.store.now) q.now.node).kind }
@@ -66,6 +67,7 @@ impl<H: Heap, S: TypeMatcherAlloc, C: TyCustom> Setting<'_, H, S, C> {
         }
     }
 
+    #[inline]
     pub(crate) fn shape(&self, q: Question) -> Shape
         requires node { q.node < length (S.nodes self.now.store.now) }
         requires value { q.value.0 < length (H.cells self.now.heap.now) }

@@ -4,7 +4,7 @@ ghost use Rattle.values.specs.Cells.{cell_at, head_of};
 ghost use Rattle.values.specs.Types.{type_number};
 ghost use Rattle.matching.specs.Shapes.{every_if};
 
-use crate::asked::Shape;
+use crate::asked::{Quantifier, Shape};
 use std::marker::Model;
 use values::built_in::BuiltIn;
 use values::head::Head;
@@ -37,6 +37,7 @@ impl<'a, H: Heap> Model for Subject<'a, H> {
 }
 
 impl<'a, H: Heap> Subject<'a, H> {
+    #[inline]
     pub(crate) fn new(heap: &'a H, value: Value) -> Subject<'a, H>
         requires { value.0 < length (H.cells heap.now) }
         ensures { result ≡ cell_at (H.cells heap.now) value.0 }
@@ -44,6 +45,7 @@ impl<'a, H: Heap> Subject<'a, H> {
         Subject { heap, value }
     }
 
+    #[inline]
     pub(crate) fn head(&self) -> Head
         ensures { result ≡ head_of self.now }
     {
@@ -51,12 +53,14 @@ impl<'a, H: Heap> Subject<'a, H> {
     }
 
     // How many parts it has.
+    #[inline]
     fn len(&self) -> usize
         ensures { result ≡ length self.now.parts }
     {
         self.heap.len(self.value).unwrap()
     }
 
+    #[inline]
     pub(crate) fn is(&self, ty: BuiltIn) -> bool
         ensures { result ≡ (self.now.ty == type_number ty) }
     {
@@ -64,6 +68,7 @@ impl<'a, H: Heap> Subject<'a, H> {
     }
 
     // Whether it is a tuple of so many parts.
+    #[inline]
     pub(crate) fn is_long(&self, len: usize) -> bool
         ensures { result ≡ (self.now.ty == 8 && length self.now.parts == len) }
     {
@@ -78,14 +83,20 @@ impl<'a, H: Heap> Subject<'a, H> {
         self.head().flags & flag != 0
     }
 
-    // Every part, of a value of the type.
+    // Every part, of a value of the type; of another the length is not asked.
+    #[inline(always)]
     pub(crate) fn every_part(&self, ty: BuiltIn) -> Shape
         ensures { result ≡ every_if (self.now.ty == type_number ty) (length self.now.parts) }
     {
-        Shape::every_if(self.is(ty), self.len())
+        if self.is(ty) {
+            Shape::Asks(Quantifier::Every, self.len())
+        } else {
+            Shape::Given(false)
+        }
     }
 
     // Every part, of a tuple of so many parts.
+    #[inline]
     pub(crate) fn every_place(&self, len: usize) -> Shape
         ensures { result ≡ every_if (self.now.ty == 8 && length self.now.parts == len) len }
     {

@@ -45,6 +45,7 @@ impl<H: Heap> LiveHeap<H> {
     }
 
     // The own cell that a value is, or nothing where it is one of those below.
+    #[inline]
     pub(crate) fn own_cell(&self, v: Value) -> Result<Option<Own>, Refusal>
         ensures { Found (live_cells H.Heap.cells self.now) (H.Heap.cells self.now.below) self.now.own.pool.items v.0 result }
     {

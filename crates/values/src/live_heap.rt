@@ -23,6 +23,7 @@ impl<H: Heap> Heap for LiveHeap<H> {
         self.base + self.own.rows.len()
     }
 
+    #[inline]
     fn head(&self, v: Value) -> Result<Head, Refusal> {
         match self.own_cell(v)? {
             Some(own) => Ok(own.head),
@@ -30,6 +31,7 @@ impl<H: Heap> Heap for LiveHeap<H> {
         }
     }
 
+    #[inline]
     fn len(&self, v: Value) -> Result<usize, Refusal> {
         match self.own_cell(v)? {
             Some(own) => Ok(own.count),
@@ -37,6 +39,7 @@ impl<H: Heap> Heap for LiveHeap<H> {
         }
     }
 
+    #[inline]
     fn part(&self, v: Value, i: usize) -> Result<Value, Refusal> {
         match self.own_cell(v)? {
             Some(own) if i < own.count => Ok(Value(self.own.pool[own.first + i])),
